@@ -1,0 +1,7 @@
+mod Powers
+mod Rounding
+mod NearestRoot
+mod Patterns
+mod FloatRoots
+mod Signs
+mod LeadingDigits

@@ -1,0 +1,5 @@
+mod Steps
+mod Parts
+mod Verdicts
+mod Written
+mod Restored

@@ -1,0 +1,4 @@
+pub mod Ranges
+pub mod Fletcher
+pub mod Layout
+pub mod Trips
