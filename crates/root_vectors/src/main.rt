@@ -44,6 +44,9 @@ fn parse_row(line: &str) -> Option<Row> {
         return None;
     }
     let root = pattern(words.next())?;
+    if words.next().is_some() {
+        return None;
+    }
     Some(Row {
         kind,
         operand,

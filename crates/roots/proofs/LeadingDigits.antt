@@ -172,10 +172,10 @@ module _ (b m j q : ℕ) (B : (0 < b) × (b < 255 * 2 ^ 23)) (M : Parts b m j) w
   whole-cube : Cube → Whole 3 q (m * 2 ^ (49 + j % 3))
   whole-cube W = let r = cube-in m j (M .0, M .1) in (omega (arith, cube q), omega (arith, cube (q + 1)))
 
-  square-digits : Square → (2 ^ 24 ≤ q) × (q < 2 ^ 25)
+  pub square-digits : Square → (2 ^ 24 ≤ q) × (q < 2 ^ 25)
   square-digits W = has-25 2 m (25 + j % 2) (24 + j % 2) q (omega arith) (square-in m j (M .0, M .1) .0) (square-in m j (M .0, M .1) .1) (whole-square W)
 
-  cube-digits : Cube → (2 ^ 24 ≤ q) × (q < 2 ^ 25)
+  pub cube-digits : Cube → (2 ^ 24 ≤ q) × (q < 2 ^ 25)
   cube-digits W = has-25 3 m (49 + j % 3) (48 + j % 3) q (omega arith) (cube-in m j (M .0, M .1) .0) (cube-in m j (M .0, M .1) .1) (whole-cube W)
 
   -- N is the number whose root is taken, and t twice the root
@@ -192,13 +192,13 @@ module _ (b m j q : ℕ) (B : (0 < b) × (b < 255 * 2 ^ 23)) (M : Parts b m j) w
   same : (x : Float) → b ≡ toBits binary32 x → b ≡ toBits binary32 x % 2 ^ 31
   same x e = omega arith
 
-  square-units : (x : Float) → T (fits binary32 x) → b ≡ toBits binary32 x → Square → Floats.sqrt binary32 x ≡ units binary32 false ((q + 1) / 2) (j / 2 + 51)
+  pub sqrt-value : (x : Float) → T (fits binary32 x) → b ≡ toBits binary32 x → Square → Floats.sqrt binary32 x ≡ units binary32 false ((q + 1) / 2) (j / 2 + 51)
   unfolding Floats.sqrt
-  square-units nan f e W = absurd (omega (arith, nan-bits))
-  square-units (inf s) f e W = absurd (omega (arith, inf-bits s))
-  square-units (fin true m d) f e W = absurd (omega (arith, not-signed m d))
-  square-units (fin false zero d) f e W = absurd (not-zero (up d) (down d) (steps b) (down-pos d) (steps-pos b (B .0)) 149 (value-of false 0 b d f (same (fin false 0 d) e) (B .1)))
-  square-units (fin false (suc m) d) f e W =
+  sqrt-value nan f e W = absurd (omega (arith, nan-bits))
+  sqrt-value (inf s) f e W = absurd (omega (arith, inf-bits s))
+  sqrt-value (fin true m d) f e W = absurd (omega (arith, not-signed m d))
+  sqrt-value (fin false zero d) f e W = absurd (not-zero (up d) (down d) (steps b) (down-pos d) (steps-pos b (B .0)) 149 (value-of false 0 b d f (same (fin false 0 d) e) (B .1)))
+  sqrt-value (fin false (suc m) d) f e W =
       let n = scaled (suc m * up d) (down d) (steps b) 149 4393 (down-pos d) (value-of false (suc m) b d f (same (fin false (suc m) d) e) (B .1)) in
       let t = Floats.rootTwice (suc m * up d * 2 ^ 4542 / down d) in
       sym (at-own binary32 t (2 ^ 2272)) ∙ of-square (suc m * up d * 2 ^ 4542 / down d) t 2272 false (square-twice (suc m * up d * 2 ^ 4542 / down d)) n refl W
@@ -215,22 +215,8 @@ module _ (b m j q : ℕ) (B : (0 < b) × (b < 255 * 2 ^ 23)) (M : Parts b m j) w
       three : 0 < 3
       three = omega arith
 
-  in-bits : (c : ℕ) → (2 ^ 24 ≤ q) × (q < 2 ^ 25) → c < 253 → units binary32 false ((q + 1) / 2) c ≡ ofBits binary32 (c * 2 ^ 23 + (q + 1) / 2)
-  in-bits c Q l = written ((q + 1) / 2) c (omega arith) (omega arith) l
-
-  pub square-bits : Square → (j / 2 + 51) * 2 ^ 23 + (q + 1) / 2 < 255 * 2 ^ 23
-  square-bits W = let Q = square-digits W in omega (arith, M .2)
-
-  pub cube-bits : Cube → (j / 3 + 76) * 2 ^ 23 + (q + 1) / 2 < 255 * 2 ^ 23
-  cube-bits W = let Q = cube-digits W in omega (arith, M .2)
-
-  pub sqrt-value : (x : Float) → T (fits binary32 x) → b ≡ toBits binary32 x → Square → ofBits binary32 ((j / 2 + 51) * 2 ^ 23 + (q + 1) / 2) ≡ Floats.sqrt binary32 x
-  sqrt-value x f e W = sym (square-units x f e W ∙ in-bits (j / 2 + 51) (square-digits W) (omega (arith, M .2)))
-
-  pub cbrt-value : (x : Float) → T (fits binary32 x) → b ≡ toBits binary32 x % 2 ^ 31 → Cube → Floats.withSign (Floats.negative x) (ofBits binary32 ((j / 3 + 76) * 2 ^ 23 + (q + 1) / 2)) ≡ cbrt binary32 x
-  cbrt-value x f e W =
-      let s = Floats.negative x in
-      sym (cube-units x f e W ∙ sym (sign-of-units s binary32 ((q + 1) / 2) (j / 3 + 76)) ∙ ap (Floats.withSign s) (in-bits (j / 3 + 76) (cube-digits W) (omega (arith, M .2))))
+  pub cbrt-value : (x : Float) → T (fits binary32 x) → b ≡ toBits binary32 x % 2 ^ 31 → Cube → Floats.withSign (Floats.negative x) (units binary32 false ((q + 1) / 2) (j / 3 + 76)) ≡ cbrt binary32 x
+  cbrt-value x f e W = sign-of-units (Floats.negative x) binary32 ((q + 1) / 2) (j / 3 + 76) ∙ sym (cube-units x f e W)
 
 -- ---- what is its own cube root
 

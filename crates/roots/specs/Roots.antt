@@ -25,6 +25,9 @@ pub record Nearest (d p l x r : ℕ) : Type 0 where
 
 -- ---- of floats
 
+-- Of the library: `HasValue x s a b` says that x is finite, of sign s and size a / b; `fits f x` that x is a float of the format f; `positive x` that it is finite and above zero.
+-- `prec f` is how many digits the format has, and 2 ^ -(low f) its smallest value: 24 and 149 for `f32`.
+
 -- x and r are not negative, and in units of the format's smallest value r is the nearest root of x
 pub record Root (d p : ℕ) (f : Format) (x r : Float) : Type 0 where
   pub number : ℕ

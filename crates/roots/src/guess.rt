@@ -26,7 +26,7 @@ fn whole_part(c: f64, k: u64) -> u64
 }
 
 // A guess at the square root of m * 2^(up - 52), times 2^k: four terms, then one step of Halley's
-// method. Of all 24 digits of an m about one in 20,000 has a guess whose 25 digits are wrong.
+// method. For about one in 20,000 of the floats of 24 digits it is wrong in the 25th.
 pub(crate) fn square_root(m: u64, up: u64, k: u64) -> u64
     requires { ⌜ (2 ^ 52 ≤ m) × (m < 2 ^ 53) × (up < 2) × (k < 32) ⌝ }
     ensures { λ r. ⌜ r < 2 ^ 32 ⌝ }

@@ -24,10 +24,11 @@ pub fn sqrt_f32(x: f32) -> f32
     if b == 0 || 0x7f80_0000 <= b {
         return x.sqrt();
     }
+    // A root of 25 digits, whose last one tells how to round: n is even, so no root lies in the middle.
     let (m, j) = pattern::significand(b);
     let n = m << (25 + j % 2);
     let q = whole::square_root(n, guess::square_root(m << 29, j % 2, 24));
-    f32::from_bits(((j / 2 + 51) * 0x80_0000 + (q + 1) / 2) as u32)
+    pattern::rounded(q, j / 2 + 51)
 }
 
 /// The cube root: the `f32` nearest to the exact root, with the sign of `x`. Zeros, infinities and
@@ -43,11 +44,11 @@ pub fn cbrt_f32(x: f32) -> f32
     if b == 0 || 0x7f80_0000 <= b {
         return x;
     }
+    // As in `sqrt_f32`.
     let (m, j) = pattern::significand(b);
     let n = (m as u128) << (49 + j % 3);
     let q = whole::cube_root(n, guess::cube_root(m << 29, j % 3, 24));
-    let size = f32::from_bits(((j / 3 + 76) * 0x80_0000 + (q + 1) / 2) as u32);
-    size.copysign(x)
+    pattern::rounded(q, j / 3 + 76).copysign(x)
 }
 
 /// The whole part of the square root.

@@ -1,6 +1,8 @@
-// The leading binary digits of a number, and its exponent.
+// The leading binary digits of a number and its exponent, and the float of such digits.
 ghost use mathlib.Core.Path.{_≡_};
-ghost use Prim.Native.Nat.{_+_, _*_, _^_, _≤_, _<_};
+ghost use mathlib.Core.Bool.{false};
+ghost use Prim.Native.Nat.{_+_, _*_, _/_, _^_, _≤_, _<_};
+ghost use lib.Ieee.{binary32, units};
 ghost use Rattle.roots.specs.Digits.{steps};
 
 // The `f32` of pattern b is m * 2^(j - 173), with m of exactly 24 digits.
@@ -17,6 +19,14 @@ pub(crate) fn significand(b: u32) -> (u64, u64)
             (b / 0x80_0000 + 23) as u64,
         )
     }
+}
+
+// q / 2, rounded up to a whole number, times 2^(e - 149).
+pub(crate) fn rounded(q: u64, e: u64) -> f32
+    requires { ⌜ (2 ^ 24 ≤ q) × (q < 2 ^ 25) × (e < 253) ⌝ }
+    ensures { λ r. ⌜ r ≡ units binary32 false ((q + 1) / 2) e ⌝ }
+{
+    f32::from_bits((e * 0x80_0000 + (q + 1) / 2) as u32)
 }
 
 // n is m * 2^(e - 52), but for what lies below m's 53 digits.

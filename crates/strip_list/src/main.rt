@@ -1,26 +1,12 @@
 // Lists the blocks of a valve log from the standard input: a line for each reading, or a line for a refused block.
 ghost use Prim.Native.Nat.{_≤_};
-ghost use mathlib.Core.Path.{_≡_};
-ghost use mathlib.Core.List.{_++_};
-ghost use Rattle.std.specs.Of.String.{string-bytes};
 ghost use Rattle.std.specs.Vec.{made};
-ghost use Rattle.strip_list.specs.Listing.{lineOf, linesOf, refusalOf, blockText};
-use fault::BlockFault;
-use std::fmt;
-use std::fmt::Write as _;
+use listing::put_block;
 use std::io;
 use std::io::BufReader;
 use std::io::BufWriter;
 use std::io::Read;
 use std::io::Write;
-use valve_log::Reading;
-
-const BLANK: Reading = Reading {
-    minute: 0,
-    valve: 0,
-    temperature: 0,
-    opening: 0,
-};
 
 // Fills the block as far as the input goes, and answers how many bytes came.
 fn fill<R: Read>(input: &mut R, block: &mut [u8; 512]) -> io::Result<usize>
@@ -35,43 +21,6 @@ fn fill<R: Read>(input: &mut R, block: &mut [u8; 512]) -> io::Result<usize>
         at += n;
     }
     Ok(at)
-}
-
-// Appends the line of one reading.
-fn put_reading(text: &mut String, number: u32, i: usize, r: Reading) -> fmt::Result
-    ensures { λ a. ⌜ made a (λ _. string-bytes (now (text .exit)) ≡ string-bytes (now (text .entry)) ++ lineOf number i r) ⌝ }
-{
-    let valve = r.valve;
-    writeln!(text, "{number} {i} {valve}")
-}
-
-// Appends the lines of a row.
-fn put_row(text: &mut String, number: u32, row: &[Reading]) -> fmt::Result
-    ensures { λ a. ⌜ made a (λ _. string-bytes (now (text .exit)) ≡ string-bytes (now (text .entry)) ++ linesOf number 0 (now (row .entry))) ⌝ }
-{
-    for i in 0..row.len() {
-        put_reading(text, number, i, row[i])?;
-    }
-    Ok(())
-}
-
-// Appends the line of a refused block, before which there were `place` blocks.
-fn put_refusal(text: &mut String, fault: BlockFault, place: u64) -> fmt::Result
-    ensures { λ a. ⌜ made a (λ _. string-bytes (now (text .exit)) ≡ string-bytes (now (text .entry)) ++ refusalOf fault place) ⌝ }
-{
-    let number = fault.refusal().number;
-    writeln!(text, "refused {number} at {place}")
-}
-
-// Appends what is listed for a block, which is refused if it is short.
-fn put_block(text: &mut String, bytes: &[u8], place: u64) -> fmt::Result
-    ensures { λ a. ⌜ made a (λ _. string-bytes (now (text .exit)) ≡ string-bytes (now (text .entry)) ++ blockText place (now (bytes .entry))) ⌝ }
-{
-    let mut row = [BLANK; 62];
-    match valve_log::read(bytes, &mut row) {
-        Ok(head) => put_row(text, head.number, &row[0..usize::from(head.count)]),
-        Err(fault) => put_refusal(text, fault, place),
-    }
 }
 
 // Lists block after block, one at a time in memory, up to the end of the input.

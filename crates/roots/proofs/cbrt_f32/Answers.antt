@@ -1,12 +1,12 @@
 -- `cbrt_f32` meets its contract. Assumes nothing.
-use mathlib.Core.Path.{refl, sym, subst, _∙_}
+use mathlib.Core.Path.{refl, sym, ap, subst, _∙_}
 use mathlib.Core.Logic.{inl, inr}
 use native.Mathlib.Omega.{arith}
 use lib.Dec.{T}
 use lib.Ieee.{binary32, fits}
+use Rattle.std.specs.Floats as Floats
 use Rattle.roots.proofs.Signs.{signed-root}
-use Rattle.roots.proofs.Patterns.{below-infinity}
-use Rattle.roots.proofs.LeadingDigits.{own-nan, own-zero, own-infinity, cube-in, cube-bits, cbrt-value}
+use Rattle.roots.proofs.LeadingDigits.{own-nan, own-zero, own-infinity, cube-in, cube-digits, cbrt-value}
 use Rattle.roots.proofs.cbrt_f32.Needs as need
 
 pub returns-then-is-nan : need.returns-then-is-nan
@@ -29,15 +29,15 @@ cube-root-q-requires c κs =
     let r = cube-in (m .result .0) (m .result .1) (m .ensures .0, m .ensures .1) in
     (omega arith, c .cube-root .ensures)
 
-pub cast-size : need.cast-size
-cast-size c = omega (arith, cube-bits _ _ _ (c .cube-root-q .result) (omega arith, c .if-b-ge2139095040 .left) (c .significand-m .ensures) (c .cube-root-q .ensures))
-
-pub float-from-bits-size : need.float-from-bits-size
-float-from-bits-size c = below-infinity _ (cube-bits _ _ _ (c .cube-root-q .result) (omega arith, c .if-b-ge2139095040 .left) (c .significand-m .ensures) (c .cube-root-q .ensures))
+pub rounded-requires : need.rounded-requires
+rounded-requires c κs =
+    let m = c .significand-m .ensures in
+    let d = cube-digits _ _ _ (c .cube-root-q .result) (omega arith, c .if-b-ge2139095040 .left) m (c .cube-root-q .ensures) in
+    (d .0, d .1, omega (arith, m .2))
 
 pub returns : need.returns
 returns c =
     let x = c .args .x in
     let h : T (fits binary32 x) = subst T (sym (c .good .0 .1)) tt in
-    let e = c .copysign .ensures ∙ cbrt-value _ _ _ (c .cube-root-q .result) (omega arith, c .if-b-ge2139095040 .left) (c .significand-m .ensures) x h refl (c .cube-root-q .ensures) in
+    let e = c .copysign .ensures ∙ ap (Floats.withSign (Floats.negative x)) (c .rounded .ensures) ∙ cbrt-value _ _ _ (c .cube-root-q .result) (omega arith, c .if-b-ge2139095040 .left) (c .significand-m .ensures) x h refl (c .cube-root-q .ensures) in
     record { value = e; nearest = signed-root binary32 x _ h e }

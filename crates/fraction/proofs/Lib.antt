@@ -1,0 +1,11 @@
+mod Divisors
+mod Same
+mod Packs
+mod Bounds
+mod Roots
+mod Kind
+mod Casts
+mod Signs
+mod Values
+mod Rooted
+mod Tables

@@ -1,0 +1,5 @@
+use Rattle.fraction.proofs.Packs.{packed}
+use Rattle.fraction.proofs.fraction.number.FractionNumber.div.Needs as need
+
+pub returns : need.returns
+returns c = packed _ (c .over .ensures)

@@ -1,0 +1,3 @@
+pub mod ToeMeans
+pub mod CurveMeans
+pub mod OklabMeans

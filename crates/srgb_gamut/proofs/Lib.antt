@@ -1,0 +1,4 @@
+pub mod Maps
+pub mod CuspMeans
+pub mod IntersectionMeans
+pub mod ChromaMeans

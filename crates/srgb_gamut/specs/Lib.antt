@@ -1,0 +1,5 @@
+pub mod Saturation
+pub mod Cusp
+pub mod Intersection
+pub mod Triangle
+pub mod Chroma

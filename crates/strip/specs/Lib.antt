@@ -1,0 +1,9 @@
+pub mod Alike
+pub mod Commission
+pub mod Curve
+pub mod Entries
+pub mod Fills
+pub mod Rows
+pub mod Runs
+pub mod Strip
+pub mod Trip
