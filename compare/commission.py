@@ -1,7 +1,7 @@
 """What strip_check must write: commission.py < blocks > listing.
 
-Each good block's readings are drawn over a triangle with S = T = 1/2 under margins of 9/10 and 4/5, and read back, in exact
-fractions: `block: count readings, count home, count home again`. No number on the way may grow too large for the library's
+Each good block's readings are drawn over a triangle with S = T = 1/2 under margins of 9/10 and 4/5, in exact fractions: a line
+`block index l a b` for each. They are read back: `block: count readings, count home, count home again`. No number on the way may grow too large for the library's
 fractions, so this stops with an error where one comes near.
 """
 import sys
@@ -50,13 +50,17 @@ def read_back(l, a, b):
     return 1 + products.index(max(products)), temperature, 1000 * s
 
 
-def comes_home(reading):
+def draw(reading):
     valve, temperature, opening = reading
     l = listing.inverse_toe(F(10 + temperature, 120))
     chroma = listing.chroma(F(opening, 1000), *values(l))
     x, y = listing.DIRECTIONS[valve]
-    fine(l, chroma, chroma * x, chroma * y)
-    return read_back(l, chroma * x, chroma * y) == (valve if opening else 0, temperature, opening)
+    return fine(l, chroma * x, chroma * y)
+
+
+def comes_home(reading):
+    valve, temperature, opening = reading
+    return read_back(*draw(reading)) == (valve if opening else 0, temperature, opening)
 
 
 while block := sys.stdin.buffer.read(512):
@@ -64,5 +68,7 @@ while block := sys.stdin.buffer.read(512):
     if isinstance(answer, int):
         continue
     number, readings = answer
+    for i, reading in enumerate(readings):
+        print(number, i, *(f"{n.numerator}/{n.denominator}" for n in draw(reading)))
     home = sum(map(comes_home, readings))
     print(f"{number}: {len(readings)} readings, {home} home, {home} home again")

@@ -31,6 +31,7 @@ use gamut::oklab::Oklab;
 use number::Number;
 use oklab::Okhsl;
 use oklab::oklab_to_okhsl;
+use oklab::unspoiled;
 
 // a × a' + b × b'
 fn along<N: Number>(d: Direction<N>, e: Direction<N>) -> N
@@ -83,16 +84,6 @@ fn indicate(
         temperature: temperature as u8,
         opening,
     })
-}
-
-// Refuses a spoiled number, with its trace.
-fn unspoiled<N: Number>(x: N) -> Result<(), NumberFault>
-    ensures { λ r. ⌜ r ≡ settled ops traced (x ∷ []) tt ⌝ }
-{
-    if x.is_spoiled() {
-        return Err(NumberFault::Lost(x.trace()));
-    }
-    Ok(())
 }
 
 // 1000 s

@@ -102,8 +102,8 @@ fn make<N: Number, B: Boundary<N>>(boundary: &mut B, call: &mut Call<N::Plain>)
 /// refused as by the model. After a last forget the memos are empty.
 pub fn replay<N: Number, B: Boundary<N>>(boundary: &mut B, calls: &mut [Call<N::Plain>])
     ensures value { λ _. ⌜ (right (now (boundary .entry)) → Each (Made means ops traced plain back (meaning (now (boundary .entry)))) (now (calls .entry)) (now (calls .exit))) ⌝ }
-    ensures right { λ _. ⌜ (right (now (boundary .entry)) → AsModelled means back arith (modelled arith (model (now (boundary .entry)))) (now (calls .entry)) (now (calls .exit))) ⌝ }
-    ensures fresh { λ _. ⌜ (fresh (now (boundary .entry)) → AsModelled means back arith (modelled arith (model (now (boundary .entry)))) (now (calls .entry)) (now (calls .exit))) ⌝ }
+    ensures alike { λ _. ⌜ (right (now (boundary .entry)) → AsModelled means back arith (modelled arith (model (now (boundary .entry)))) (now (calls .entry)) (now (calls .exit))) ⌝ }
+    ensures afresh { λ _. ⌜ (fresh (now (boundary .entry)) → AsModelled means back arith (modelled arith (model (now (boundary .entry)))) (now (calls .entry)) (now (calls .exit))) ⌝ }
     ensures emptied { λ _. ⌜ (right (now (boundary .entry)) → EndsForgetting (now (calls .entry)) → fresh (now (boundary .exit))) ⌝ }
     ensures queries { λ _. ⌜ ((q : Query Meaning) → answered arith (meaning (now (boundary .exit))) q ≡ answered arith (modelled arith (model (now (boundary .entry)))) q) ⌝ }
     ensures stays { λ _. ⌜ Stays right meaning model (now (boundary .entry)) (now (boundary .exit)) ⌝ }

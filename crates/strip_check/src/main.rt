@@ -11,10 +11,12 @@ use boundary::Triangle;
 use boundary::TriangleBoundary;
 use fault::NumberFault;
 use fraction::Fraction;
+use fraction::FractionDisplay;
 use fraction::FractionExact;
 use fraction::FractionNumber;
 use fraction::PlainFraction;
 use gamut::oklab::Oklab;
+use number::Number;
 use std::alloc::AllocError;
 use std::alloc::Global;
 use std::io;
@@ -146,15 +148,34 @@ fn commissioned(
     }
 }
 
-// How many readings of a row come home, and how many again in a replay on the panel's stack.
-fn check_row(
+// Writes a line for each colour: block number, index, l, a and b.
+fn put_colors<W: Write>(
+    out: &mut W,
+    number: u32,
+    colors: &[Oklab<PlainFraction>],
+) -> io::Result<()> {
+    for i in 0..colors.len() {
+        let color = colors[i];
+        let l = Fraction::from_plain(color.l);
+        let a = Fraction::from_plain(color.a);
+        let b = Fraction::from_plain(color.b);
+        writeln!(out, "{number} {i} {l} {a} {b}")?;
+    }
+    Ok(())
+}
+
+// Writes a row's colours, and then how many of its readings come home, and how many again in a replay on the panel's stack.
+fn check_row<W: Write>(
+    out: &mut W,
     panel: &mut Stack,
     page: &mut Stack,
+    number: u32,
     readings: &[Reading],
     heap: Global,
-) -> Result<(u32, u32), AllocError> {
-    let mut colors = blank(BLACK, readings.len(), heap)?;
-    let mut seen = blank(NOTHING, readings.len(), heap)?;
+) -> io::Result<()> {
+    let count = readings.len();
+    let mut colors = blank(BLACK, count, heap)?;
+    let mut seen = blank(NOTHING, count, heap)?;
     let home = commissioned(
         panel,
         page,
@@ -162,9 +183,14 @@ fn check_row(
         colors.as_mut_slice(),
         seen.as_mut_slice(),
     );
+    put_colors(out, number, colors.as_slice())?;
     let mut calls = calls_of(readings, colors.as_slice(), heap)?;
     replay::<Fraction, Stack>(panel, &mut calls);
-    Ok((home, home_in(readings, &calls[2])))
+    let again = home_in(readings, &calls[2]);
+    writeln!(
+        out,
+        "{number}: {count} readings, {home} home, {again} home again"
+    )
 }
 
 // Fills the block as far as the input goes, and answers how many bytes came.
@@ -197,13 +223,7 @@ fn check_blocks<R: Read, W: Write>(
         }
         let mut row = [BLANK; 62];
         if let Ok(head) = valve_log::read(&block[0..n], &mut row) {
-            let number = head.number;
-            let count = head.count;
-            let (home, again) = check_row(panel, page, &row[0..usize::from(count)], heap)?;
-            writeln!(
-                out,
-                "{number}: {count} readings, {home} home, {again} home again"
-            )?;
+            check_row(out, panel, page, head.number, &row[0..usize::from(head.count)], heap)?;
         }
     }
     Ok(())

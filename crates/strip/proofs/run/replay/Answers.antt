@@ -47,8 +47,8 @@ returns g c =
     (made-shown (g .N·Number·met .hom) (n .traced) (n .plain) (n .back) (g .N·Number·met .again) m) (c .args .calls .now) (c .loop-i .calls) (each h)) in
     record {
       value = each;
-      right = alike;
-      fresh = λ h. alike (g .B·Boundary·met .sound (c .args .boundary .now) h);
+      alike = alike;
+      afresh = λ h. alike (g .B·Boundary·met .sound (c .args .boundary .now) h);
       emptied = λ h f. c .loop-i .inv .4 h (subst EndsForgetting (sym (take-all (c .loop-i .i) (c .args .calls .now) (omega arith))) f);
       queries = λ q. ap (λ k. answered (n .arith) k q) (c .loop-i .inv .2 .same-meaning ∙ model);
       stays = c .loop-i .inv .2;
