@@ -72,7 +72,7 @@ pub const ALL: [Conversion; 16] = [
 
 impl Conversion {
     /// The name in a row.
-    pub fn name(self) -> &'static str {
+    pub(crate) fn name(self) -> &'static str {
         match self {
             Conversion::OkhslToOklab => "okhsl>oklab",
             Conversion::OklabToOkhsl => "oklab>okhsl",
@@ -94,7 +94,7 @@ impl Conversion {
     }
 
     /// The conversion of a row's name.
-    pub fn named(name: &str) -> Option<Conversion> {
+    pub(crate) fn named(name: &str) -> Option<Conversion> {
         for conversion in ALL {
             if conversion.name() == name {
                 return Some(conversion);
@@ -104,7 +104,7 @@ impl Conversion {
     }
 
     /// How many numbers a row has before and after its `=`.
-    pub fn counts(self) -> (u8, u8) {
+    pub(crate) fn counts(self) -> (u8, u8) {
         match self {
             Conversion::OkhslToOklab | Conversion::OkhsvToOklab | Conversion::OklchToOklab => (
                 4,
@@ -250,7 +250,7 @@ fn cusp(x: Numbers) -> Numbers {
 }
 
 /// What the library gives for the numbers.
-pub fn convert(conversion: Conversion, x: Numbers) -> Result<Numbers, NumberFault> {
+pub(crate) fn convert(conversion: Conversion, x: Numbers) -> Result<Numbers, NumberFault> {
     Ok(
         match conversion {
             Conversion::OkhslToOklab => of_oklab(okhsl_to_oklab(okhsl(x), &mut Srgb::new())?),

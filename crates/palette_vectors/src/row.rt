@@ -19,7 +19,7 @@ fn is_same(x: f32, y: f32) -> bool {
 
 impl Numbers {
     /// Whether all four have the same bits, all not-a-numbers alike.
-    pub fn is_same(self, other: Numbers) -> bool {
+    pub(crate) fn is_same(self, other: Numbers) -> bool {
         is_same(self.first, other.first)
             && is_same(self.second, other.second)
             && is_same(self.third, other.third)
@@ -79,7 +79,7 @@ fn parse_expected(words: &mut SplitWhitespace, count: u8) -> Option<Result<Numbe
 }
 
 /// The row of a line, if it is one.
-pub fn parse_row(line: &str) -> Option<Row> {
+pub(crate) fn parse_row(line: &str) -> Option<Row> {
     let mut words = line.split_whitespace();
     let conversion = Conversion::named(words.next()?)?;
     let (inputs, outputs) = conversion.counts();

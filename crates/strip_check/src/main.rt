@@ -223,7 +223,14 @@ fn check_blocks<R: Read, W: Write>(
         }
         let mut row = [BLANK; 62];
         if let Ok(head) = valve_log::read(&block[0..n], &mut row) {
-            check_row(out, panel, page, head.number, &row[0..usize::from(head.count)], heap)?;
+            check_row(
+                out,
+                panel,
+                page,
+                head.number,
+                &row[0..usize::from(head.count)],
+                heap,
+            )?;
         }
     }
     Ok(())
