@@ -6,16 +6,30 @@ use fault::NumberFault;
 use fault::NumberFaultDisplay;
 use fraction::Fraction;
 use fraction::FractionNumber;
-use gamut::direction::Direction;
-use gamut::oklab::Oklab;
+use gamut::Direction;
+use gamut::LinSrgb;
+use gamut::Oklab;
+use gamut::Xyz;
 use number::FloatNumber;
 use number::Number;
 use number::Traced;
 use number::TracedNumber;
 use oklab::Okhsl;
+use oklab::Okhsv;
+use oklab::Okhwb;
+use oklab::Oklch;
+use oklab::linear_srgb_to_oklab;
 use oklab::okhsl_to_oklab;
+use oklab::okhsv_to_okhwb;
+use oklab::okhsv_to_oklab;
+use oklab::okhwb_to_okhsv;
+use oklab::oklab_to_linear_srgb;
 use oklab::oklab_to_okhsl;
+use oklab::oklab_to_okhsv;
+use oklab::oklab_to_oklch;
 use oklab::oklab_to_xyz;
+use oklab::oklch_to_oklab;
+use oklab::xyz_to_oklab;
 use std::io;
 use std::io::BufWriter;
 use std::io::Write;
@@ -49,10 +63,7 @@ fn oklab<N: Number>(l: N, a: N, b: N) -> Oklab<N> {
 // The gamut of sRGB takes cubes of ten-digit decimals: over fractions its cusp is lost.
 fn over_srgb<N: Number>() -> Option<NumberFault> {
     let color = Okhsl {
-        hue: Direction {
-            a: ratio(3, 5),
-            b: ratio(4, 5),
-        },
+        hue: expansion(),
         saturation: ratio(2, 5),
         lightness: ratio::<N>(1, 2),
     };
@@ -65,8 +76,7 @@ fn grey<N: Number>() -> Option<NumberFault> {
 }
 
 fn diagonal<N: Number>() -> Option<NumberFault> {
-    let half: N = ratio(1, 2);
-    refusal_of(oklab_to_okhsl(oklab(half, half, half), &mut Srgb::new()))
+    refusal_of(oklab_to_okhsl(halves::<N>(), &mut Srgb::new()))
 }
 
 fn overflow<N: Number>() -> Option<NumberFault> {
@@ -77,14 +87,139 @@ fn overflow<N: Number>() -> Option<NumberFault> {
     refusal_of(oklab_to_okhsl(oklab(ratio(1, 2), large, large), &mut Srgb::new()))
 }
 
+fn halves<N: Number>() -> Oklab<N> {
+    let half = ratio(1, 2);
+    oklab(half, half, half)
+}
+
+fn expansion<N: Number>() -> Direction<N> {
+    Direction {
+        a: ratio(3, 5),
+        b: ratio(4, 5),
+    }
+}
+
 fn to_xyz<N: Number>() -> Option<NumberFault> {
+    refusal_of(oklab_to_xyz(halves::<N>()))
+}
+
+fn from_xyz<N: Number>() -> Option<NumberFault> {
     let half: N = ratio(1, 2);
-    refusal_of(oklab_to_xyz(oklab(half, half, half)))
+    refusal_of(xyz_to_oklab(Xyz {
+        x: half,
+        y: half,
+        z: half,
+    }))
+}
+
+fn to_rgb<N: Number>() -> Option<NumberFault> {
+    refusal_of(oklab_to_linear_srgb(halves::<N>()))
+}
+
+fn from_rgb<N: Number>() -> Option<NumberFault> {
+    let half: N = ratio(1, 2);
+    refusal_of(linear_srgb_to_oklab(LinSrgb {
+        red: half,
+        green: half,
+        blue: half,
+    }))
+}
+
+fn to_okhsv<N: Number>() -> Option<NumberFault> {
+    refusal_of(oklab_to_okhsv(halves::<N>()))
+}
+
+fn from_okhsv<N: Number>() -> Option<NumberFault> {
+    let half: N = ratio(1, 2);
+    refusal_of(okhsv_to_oklab(Okhsv {
+        hue: expansion(),
+        saturation: half,
+        value: half,
+    }))
+}
+
+// Small numbers whose product has a denominator that is too large.
+fn to_okhwb<N: Number>() -> Option<NumberFault> {
+    let small: N = ratio(1, 1 << 40);
+    refusal_of(okhsv_to_okhwb(Okhsv {
+        hue: expansion(),
+        saturation: small,
+        value: small,
+    }))
+}
+
+fn from_okhwb<N: Number>() -> Option<NumberFault> {
+    refusal_of(okhwb_to_okhsv(Okhwb {
+        hue: expansion::<N>(),
+        whiteness: ratio(1, 1 << 40),
+        blackness: ratio(1, 3486784401),
+    }))
+}
+
+fn to_oklch<N: Number>() -> Option<NumberFault> {
+    refusal_of(oklab_to_oklch(halves::<N>()))
+}
+
+fn from_oklch<N: Number>() -> Option<NumberFault> {
+    refusal_of(oklch_to_oklab(Oklch {
+        l: ratio::<N>(1, 2),
+        chroma: ratio(1, 2305843009213693951),
+        hue: expansion(),
+    }))
 }
 
 fn quotient<N: Number>() -> Option<NumberFault> {
     let lost: N = ratio(1, 0);
     Some(NumberFault::Lost(lost.trace()))
+}
+
+fn report_others<W: Write>(out: &mut W) -> io::Result<()> {
+    report(
+        out,
+        "from XYZ, traced fractions",
+        from_xyz::<Traced<Fraction>>(),
+    )?;
+    report(
+        out,
+        "to linear sRGB, traced fractions",
+        to_rgb::<Traced<Fraction>>(),
+    )?;
+    report(
+        out,
+        "from linear sRGB, traced fractions",
+        from_rgb::<Traced<Fraction>>(),
+    )?;
+    report(
+        out,
+        "to Okhsv, traced fractions",
+        to_okhsv::<Traced<Fraction>>(),
+    )?;
+    report(
+        out,
+        "from Okhsv, traced fractions",
+        from_okhsv::<Traced<Fraction>>(),
+    )?;
+    report(
+        out,
+        "to Okhwb, traced fractions",
+        to_okhwb::<Traced<Fraction>>(),
+    )?;
+    report(
+        out,
+        "from Okhwb, traced fractions",
+        from_okhwb::<Traced<Fraction>>(),
+    )?;
+    report(
+        out,
+        "to Oklch, traced fractions",
+        to_oklch::<Traced<Fraction>>(),
+    )?;
+    report(
+        out,
+        "from Oklch, traced fractions",
+        from_oklch::<Traced<Fraction>>(),
+    )?;
+    Ok(())
 }
 
 fn main(rt: LibcRuntime) -> io::Result<()> {
@@ -139,5 +274,6 @@ fn main(rt: LibcRuntime) -> io::Result<()> {
         "a quotient by 0, twice traced f32",
         quotient::<Traced<Traced<f32>>>(),
     )?;
+    report_others(&mut out)?;
     out.flush()
 }
