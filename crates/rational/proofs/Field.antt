@@ -129,15 +129,15 @@ module _ {F : Type 0} {o : FieldOps F} (K : OrderedField o) where
 
   -- from b c = 0 and c not 0, b = 0
   pub factor_zero : (b c : F) → NonZero o c → b * c ≡ 𝟘 → b ≡ 𝟘
-  factor_zero b c h e = R.ring-from ring (b ∷ c ∷ 𝟙 / c ∷ []) R.x₀ (R.con (pos 0))
+  factor_zero b c h e = R.ring_from ring (b ∷ c ∷ 𝟙 / c ∷ []) R.x₀ (R.con (pos 0))
       (R.fact R.x₂ (times R.x₀ R.x₁) (R.con (pos 0)) e (R.fact (R.neg R.x₀) (times R.x₂ R.x₁) (R.con (pos 1)) (K.div_mul 𝟙 c h) R.none)) refl
 
   pub mul_nonzero : (b c : F) → NonZero o b → NonZero o c → NonZero o (b * c)
   mul_nonzero b c h k e = h (factor_zero b c k e)
 
   pub mul_cancel : (a b c : F) → NonZero o c → a * c ≡ b * c → a ≡ b
-  mul_cancel a b c h e = R.ring-by ring (a ∷ b ∷ []) R.x₀ R.x₁ (R.con (pos 1)) (minus R.x₀ R.x₁) (R.con (pos 0))
-      (factor_zero (a - b) c h (R.ring-by ring (a ∷ b ∷ c ∷ []) (times (minus R.x₀ R.x₁) R.x₂) (R.con (pos 0)) (R.con (pos 1)) (times R.x₀ R.x₂) (times R.x₁ R.x₂) e refl)) refl
+  mul_cancel a b c h e = R.ring_by ring (a ∷ b ∷ []) R.x₀ R.x₁ (R.con (pos 1)) (minus R.x₀ R.x₁) (R.con (pos 0))
+      (factor_zero (a - b) c h (R.ring_by ring (a ∷ b ∷ c ∷ []) (times (minus R.x₀ R.x₁) R.x₂) (R.con (pos 0)) (R.con (pos 1)) (times R.x₀ R.x₂) (times R.x₁ R.x₂) e refl)) refl
 
   -- 1 is not 0, nor is a power of 10
   pub whole_above : (n : ℕ) → T (o.below 𝟘 (o.lit (pos (suc n)) 0))
@@ -164,7 +164,7 @@ module _ {F : Type 0} {o : FieldOps F} (K : OrderedField o) where
         ((mul_nonzero _ _ p.0 q.0, sums (eval o ρ a) (eval o ρ b) _ _ _ _ p.1 q.1), k₂)
       where
         sums : (a b p q m n : F) → a * p ≡ m → b * q ≡ n → (a + b) * (p * q) ≡ m * q + n * p
-        sums a b p q m n e f = R.ring-from ring (a ∷ b ∷ p ∷ q ∷ m ∷ n ∷ []) (times (plus R.x₀ R.x₁) (times R.x₂ R.x₃)) (plus (times R.x₄ R.x₃) (times R.x₅ R.x₂))
+        sums a b p q m n e f = R.ring_from ring (a ∷ b ∷ p ∷ q ∷ m ∷ n ∷ []) (times (plus R.x₀ R.x₁) (times R.x₂ R.x₃)) (plus (times R.x₄ R.x₃) (times R.x₅ R.x₂))
             (R.fact R.x₃ (times R.x₀ R.x₂) R.x₄ e (R.fact R.x₂ (times R.x₁ R.x₃) R.x₅ f R.none)) refl
     sound (a ⊖ b) more k =
         let (p, k₁) = sound a _ k in
@@ -172,7 +172,7 @@ module _ {F : Type 0} {o : FieldOps F} (K : OrderedField o) where
         ((mul_nonzero _ _ p.0 q.0, differences (eval o ρ a) (eval o ρ b) _ _ _ _ p.1 q.1), k₂)
       where
         differences : (a b p q m n : F) → a * p ≡ m → b * q ≡ n → (a - b) * (p * q) ≡ m * q - n * p
-        differences a b p q m n e f = R.ring-from ring (a ∷ b ∷ p ∷ q ∷ m ∷ n ∷ []) (times (minus R.x₀ R.x₁) (times R.x₂ R.x₃)) (minus (times R.x₄ R.x₃) (times R.x₅ R.x₂))
+        differences a b p q m n e f = R.ring_from ring (a ∷ b ∷ p ∷ q ∷ m ∷ n ∷ []) (times (minus R.x₀ R.x₁) (times R.x₂ R.x₃)) (minus (times R.x₄ R.x₃) (times R.x₅ R.x₂))
             (R.fact R.x₃ (times R.x₀ R.x₂) R.x₄ e (R.fact (R.neg R.x₂) (times R.x₁ R.x₃) R.x₅ f R.none)) refl
     sound (a ⊗ b) more k =
         let (p, k₁) = sound a _ k in
@@ -180,14 +180,14 @@ module _ {F : Type 0} {o : FieldOps F} (K : OrderedField o) where
         ((mul_nonzero _ _ p.0 q.0, prods (eval o ρ a) (eval o ρ b) _ _ _ _ p.1 q.1), k₂)
       where
         prods : (a b p q m n : F) → a * p ≡ m → b * q ≡ n → (a * b) * (p * q) ≡ m * n
-        prods a b p q m n e f = R.ring-from ring (a ∷ b ∷ p ∷ q ∷ m ∷ n ∷ []) (times (times R.x₀ R.x₁) (times R.x₂ R.x₃)) (times R.x₄ R.x₅)
+        prods a b p q m n e f = R.ring_from ring (a ∷ b ∷ p ∷ q ∷ m ∷ n ∷ []) (times (times R.x₀ R.x₁) (times R.x₂ R.x₃)) (times R.x₄ R.x₅)
             (R.fact (times R.x₁ R.x₃) (times R.x₀ R.x₂) R.x₄ e (R.fact R.x₄ (times R.x₁ R.x₃) R.x₅ f R.none)) refl
     sound (neg a) more k =
         let (p, k₁) = sound a _ k in
         ((p.0, negs (eval o ρ a) _ _ p.1), k₁)
       where
         negs : (a p m : F) → a * p ≡ m → o.neg a * p ≡ o.neg m
-        negs a p m e = R.ring-by ring (a ∷ p ∷ m ∷ []) (times (R.neg R.x₀) R.x₁) (R.neg R.x₂) (R.con (negsuc 0)) (times R.x₀ R.x₁) R.x₂ e refl
+        negs a p m e = R.ring_by ring (a ∷ p ∷ m ∷ []) (times (R.neg R.x₀) R.x₁) (R.neg R.x₂) (R.con (negsuc 0)) (times R.x₀ R.x₁) R.x₂ e refl
     sound (a ⊘ b) more k =
         let (p, k₁) = sound a _ k in
         let (q, k₂) = sound b _ k₁ in (
@@ -199,7 +199,7 @@ module _ {F : Type 0} {o : FieldOps F} (K : OrderedField o) where
         )
       where
         quots : (d a b p q m n : F) → d * b ≡ a → a * p ≡ m → b * q ≡ n → d * (p * n) ≡ m * q
-        quots d a b p q m n g e f = R.ring-from ring (a ∷ b ∷ p ∷ q ∷ m ∷ n ∷ d ∷ []) (times R.x₆ (times R.x₂ R.x₅)) (times R.x₄ R.x₃)
+        quots d a b p q m n g e f = R.ring_from ring (a ∷ b ∷ p ∷ q ∷ m ∷ n ∷ d ∷ []) (times R.x₆ (times R.x₂ R.x₅)) (times R.x₄ R.x₃)
             (R.fact R.x₃ (times R.x₀ R.x₂) R.x₄ e (R.fact (R.neg (times R.x₆ R.x₂)) (times R.x₁ R.x₃) R.x₅ f (R.fact (times R.x₂ R.x₃) (times R.x₆ R.x₁) R.x₀ g R.none))) refl
 
     -- two formulas with equal cross products have one value
@@ -212,7 +212,7 @@ module _ {F : Type 0} {o : FieldOps F} (K : OrderedField o) where
       where
         cross : (a b p q m n : F) → NonZero o p → NonZero o q → a * p ≡ m → b * q ≡ n → m * q ≡ n * p → a ≡ b
         cross a b p q m n hp hq e f g = mul_cancel a b (p * q) (mul_nonzero p q hp hq)
-            (R.ring-from ring (a ∷ b ∷ p ∷ q ∷ m ∷ n ∷ []) (times R.x₀ (times R.x₂ R.x₃)) (times R.x₁ (times R.x₂ R.x₃))
+            (R.ring_from ring (a ∷ b ∷ p ∷ q ∷ m ∷ n ∷ []) (times R.x₀ (times R.x₂ R.x₃)) (times R.x₁ (times R.x₂ R.x₃))
             (R.fact R.x₃ (times R.x₀ R.x₂) R.x₄ e (R.fact (R.neg R.x₂) (times R.x₁ R.x₃) R.x₅ f (R.fact (R.con (pos 1)) (times R.x₄ R.x₃) (times R.x₅ R.x₂) g R.none))) refl)
 
     -- and so where the cross products have one sum

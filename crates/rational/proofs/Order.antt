@@ -173,10 +173,10 @@ module _ {F : Type 0} {o : FieldOps F} (K : OrderedField o) where
   -- ---- the order by the difference
 
   pub below_by : (a b : F) → Above o (b - a) → T (o.below a b)
-  below_by a b t = subst T (sym (K.Below-sub a b)) t
+  below_by a b t = subst T (sym (K.below_sub a b)) t
 
   pub by_below : (a b : F) → T (o.below a b) → Above o (b - a)
-  by_below a b t = subst T (K.Below-sub a b) t
+  by_below a b t = subst T (K.below_sub a b) t
 
   -- a ≥ b, as the test has it, and by the difference
   pub least_of : (a b : F) → T (not (o.below a b)) → Least o (a - b)
@@ -197,7 +197,7 @@ module _ {F : Type 0} {o : FieldOps F} (K : OrderedField o) where
     where
       back : Above o (b - a) → Least o (a - b) → ⊥
       back t (inl u) = not_both (a - b) u (subst (Above o) (R.ring K.laws (a ∷ b ∷ []) (minus R.x₁ R.x₀) (R.neg (minus R.x₀ R.x₁)) refl) t)
-      back t (inr e) = not_above_zero (subst (Above o) (R.ring-by K.laws (a ∷ b ∷ []) (minus R.x₁ R.x₀) (R.con (pos 0)) (R.con (negsuc 0)) (minus R.x₀ R.x₁) (R.con (pos 0)) e refl) t)
+      back t (inr e) = not_above_zero (subst (Above o) (R.ring_by K.laws (a ∷ b ∷ []) (minus R.x₁ R.x₀) (R.con (pos 0)) (R.con (negsuc 0)) (minus R.x₀ R.x₁) (R.con (pos 0)) e refl) t)
 
       go : (c : Bool) → o.below a b ≡ c → Least o (a - b) → T (not c)
       go true e h = back (by_below a b (subst T (sym e) tt)) h
@@ -281,7 +281,7 @@ module _ {F : Type 0} {o : FieldOps F} (K : OrderedField o) where
     pub equal_by : (e f : Formula) (c p q : Expr) → R.eval (ring_of o) ρ p ≡ R.eval (ring_of o) ρ q → T (both (tame s e) (tame s f))
         → norm (plus (times (quot e).num (quot f).den) (times c q)) ≡ norm (plus (times (quot f).num (quot e).den) (times c p)) → eval o ρ e ≡ eval o ρ f
     equal_by e f c p q g t h = crossed K ρ e f (fine e _ (both_left _ _ t) (fine f _ (both_right (tame s e) _ t) tt))
-        (R.ring-by K.laws ρ (times (quot e).num (quot f).den) (times (quot f).num (quot e).den) c p q g h)
+        (R.ring_by K.laws ρ (times (quot e).num (quot f).den) (times (quot f).num (quot e).den) c p q g h)
 
     pub above : (e : Formula) → T (both (tame s e) (both (strict s (norm (quot e).num)) (strict s (norm (quot e).den)))) → Above o (eval o ρ e)
     above e t =

@@ -69,7 +69,7 @@ module _ (d p m l g x n t : ℕ) (D : 0 < d) (P : 0 < p) (M : m ≤ p * d) (X : 
   far : (j : ℕ) → j + (suc l + g) * d ≤ (g + k) * d + l → 2 ^ m ≤ (2 * c + 1) ^ d
   far j h =
       let K : 0 < k = elim (eq-zero-or-pos k) [
-        | inl z ↦ absurd (let a : (g + k) * d ≡ g * d = ap (λ (i : ℕ). (g + i) * d) z ∙ ap (λ (i : ℕ). i * d) (native.Mathlib.Nat.add_zero g) in let b : suc l * 1 ≤ suc l * d = mul-le-mul_left (suc l) D in omega arith)
+        | inl z ↦ absurd (let a : (g + k) * d ≡ g * d = ap (λ (i : ℕ). (g + i) * d) z ∙ ap (λ (i : ℕ). i * d) (native.Mathlib.Nat.add-zero g) in let b : suc l * 1 ≤ suc l * d = mul-le-mul_left (suc l) D in omega arith)
         | inr q ↦ q
       ] in
       let f = Rounding.full p num den P den_pos K in
@@ -95,7 +95,7 @@ module _ (d p m l g x n t : ℕ) (D : 0 < d) (P : 0 < p) (M : m ≤ p * d) (X : 
 
   pub is_nearest : Nearest d p l x (kept p num den * 2 ^ drop p num den)
   is_nearest = record {
-    held = Rounding.r-held p num den P den_pos;
+    held = Rounding.r_held p num den P den_pos;
     lower = λ y H h. under (y + Rounding.r p num den P den_pos) (Rounding.lower p num den P den_pos tie y H h);
     upper = λ y H h. over (y + Rounding.r p num den P den_pos) (Rounding.upper p num den P den_pos tie y H h);
   }

@@ -14,7 +14,7 @@ returns-then-is-nan c =
 pub returns-then-b-eq0 : goal.returns-then-b-eq0
 returns-then-b-eq0 c =
     let x = c.args.x in
-    let h : T (fits binary32 x) = subst T (sym c.well-formed.0.1) tt in
+    let h : T (fits binary32 x) = subst T (sym c.good.0.1) tt in
     elim c.then-b-eq0.either [
       | inl z ↦ let e = own-zero x _ h refl z in record { value = e; nearest = signed-root binary32 x _ h e }
       | inr z ↦ let e = own_infinity x _ h refl z.1 in record { value = e; nearest = signed-root binary32 x _ h e }
@@ -29,12 +29,12 @@ cube-root-q-requires c =
 pub rounded-requires : goal.rounded-requires
 rounded-requires c =
     let m = c.significand-m.ensures in
-    let d = cube_digits _ _ _ c.cube-root-q.result (omega arith, c.if-b-ge2139095040.false) m c.cube-root-q.ensures in
+    let d = cube_digits _ _ _ c.cube_root-q.result (omega arith, c.if-b-ge2139095040.false) m c.cube_root-q.ensures in
     (d.0, d.1, omega (arith, m.2))
 
 pub returns : goal.returns
 returns c =
     let x = c.args.x in
-    let h : T (fits binary32 x) = subst T (sym c.well-formed.0.1) tt in
+    let h : T (fits binary32 x) = subst T (sym c.good.0.1) tt in
     let e = c.copysign.ensures ∙ ap (Floats.float_with_sign (Floats.is_sign_negative x)) c.rounded.ensures ∙ cbrt_value _ _ _ c.cube-root-q.result (omega arith, c.if-b-ge2139095040.false) c.significand-m.ensures x h refl c.cube-root-q.ensures in
     record { value = e; nearest = signed-root binary32 x _ h e }

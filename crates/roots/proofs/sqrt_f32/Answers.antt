@@ -14,12 +14,12 @@ returns-then-b-eq0 c = let e = c.sqrt-then-b-eq0.ensures.value in record { value
 pub rounded-requires : goal.rounded-requires
 rounded-requires c =
     let m = c.significand-m.ensures in
-    let d = square_digits _ _ _ c.square-root-q.result (omega arith, c.if-b-ge2139095040.false) m c.square-root-q.ensures in
+    let d = square_digits _ _ _ c.square_root-q.result (omega arith, c.if-b-ge2139095040.false) m c.square_root-q.ensures in
     (d.0, d.1, omega (arith, m.2))
 
 pub returns : goal.returns
 returns c =
     let x = c.args.x in
-    let h : T (fits binary32 x) = subst T (sym c.well-formed.0.1) tt in
+    let h : T (fits binary32 x) = subst T (sym c.good.0.1) tt in
     let e = c.rounded.ensures ∙ sym (sqrt_value _ _ _ c.square-root-q.result (omega arith, c.if-b-ge2139095040.false) c.significand-m.ensures x h refl c.square-root-q.ensures) in
     record { value = e; nearest = square_root binary32 x _ h e }

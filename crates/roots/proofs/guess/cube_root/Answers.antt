@@ -6,4 +6,4 @@ pub returns : goal.returns
 returns c =
     let k = c.args.k in
     let e : 2 ^ (k + 1) ≤ 2 ^ 25 = pow_mono {i = k + 1} {j = 25} (omega (arith, c.requires.3)) in
-    omega (arith, c.whole-part.ensures)
+    omega (arith, c.whole_part.ensures)
