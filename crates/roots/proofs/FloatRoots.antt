@@ -3,6 +3,7 @@ use Rattle.std.proofs.Common.{◌≡◌, ℕ, zero, suc, ◌+◌, ◌-◌, ◌*�
 use native.Mathlib.Nat.{pow-le-pow_left}
 use lib.Pow.{pow-lt}
 use lib.Ieee.{Float, Format, nan, inf, fin, binary32, binary64, prec, emax, low, up, down, size, fits, of_bits}
+use lib.Ieee as Ieee
 use lib.Ieee.Digits.{size-lt}
 use lib.Ieee.Fits.{and_l, and_r, down_pos, round_is, two, two-le_pos}
 use lib.Ieee.Bits.{of_bits-to_bits}
@@ -11,7 +12,7 @@ use lib.Ieee.Order.{drop, kept}
 use lib.Ieee.Positive.{positive}
 use Rattle.std.specs.Float as Floats
 use Rattle.roots.specs.Digits.{rounded, root_twice}
-use Rattle.roots.specs.Roots.{Held, Nearest, Root, cbrt, FloatsHeld, NearestUnique, RootsUnique, RootsNearest, SpecialRoots}
+use Rattle.roots.specs.Roots.{Held, Nearest, Root, cbrt, sqrt, FloatsHeld, NearestUnique, RootsUnique, RootsNearest, SpecialRoots}
 use Rattle.roots.proofs.Powers.{power_at, square, power_of_power, Twice, twice_of_whole, root_twice_lem}
 use Rattle.roots.proofs.NearestRoot.{is_nearest}
 use Rattle.roots.proofs.Patterns.{bits_of_value}
@@ -155,15 +156,15 @@ digit : (r n : ℕ) (b : Bool) → Square r (n / 4) → leb ((2 * r + 1) * (2 * 
 digit r n true h e = (leb-true _ _ e, omega (arith, h.1))
 digit r n false h e = (omega (arith, h.0), leb-false _ _ e)
 
-below : (k n : ℕ) → n < 2 ^ k → Square (Floats.isqrt-below k n) n
-unfolding Floats.isqrt-below
+below : (k n : ℕ) → n < 2 ^ k → Square (Ieee.root_below k n) n
+unfolding Ieee.root_below
 below zero n h = omega arith
-below (suc k) n h = digit (Floats.isqrt-below k (n / 4)) n _ (below k (n / 4) (omega arith)) refl
+below (suc k) n h = digit (Ieee.root_below k (n / 4)) n _ (below k (n / 4) (omega arith)) refl
 
-pub square_twice : (n : ℕ) → Twice 2 n (Floats.twice-sqrt-sticky n)
-unfolding Floats.twice-sqrt-sticky
+pub square_twice : (n : ℕ) → Twice 2 n (Ieee.root_twice n)
+unfolding Ieee.root_twice
 square_twice n =
-    let s = Floats.isqrt-below (size n) n in
+    let s = Ieee.root_below (size n) n in
     let h = below (size n) n (size-lt n) in
     twice_of_whole 2 s n (eqb (s * s) n) (omega arith) (omega (arith, square s), omega (arith, square (s + 1))) (ap (λ (x : ℕ). eqb x n) (square s))
 
@@ -177,7 +178,7 @@ twice_wide f = omega arith
 pub sqrt_root : (f : Format) (x : Float) → T (fits f x) → T (positive x) → Root 2 (prec f) f x (Floats.sqrt f x)
 unfolding Floats.sqrt
 sqrt_root f (fin false (suc m) e) h g =
-    let t = Floats.twice-sqrt-sticky (suc m * up e * 2 ^ 4542 / down e) in
+    let t = Ieee.root_twice (suc m * up e * 2 ^ 4542 / down e) in
     subst (λ (r : Float). Root 2 (prec f) f (fin false (suc m) e) r) (at_own f t (2 ^ 2272))
     (is_root 2 (prec f) f (suc m) e (parts f false m e h) (omega arith) (two-le_pos (prec f) (two f)) (twice_wide f) t (square_twice (suc m * up e * 2 ^ 4542 / down e)))
 sqrt_root f (fin false zero e) h g = absurd g
@@ -232,11 +233,26 @@ roots_unique d p f x r s h g a b =
 pub roots_nearest : RootsNearest
 roots_nearest f x h g = (sqrt_root f x h g, cbrt-root f x h g)
 
+-- a format writes a zero in one way
+zero_exponent : (f : Format) (s : Bool) (e : ℤ) → T (fits f (fin s 0 e)) → pos 0 ≡ e
+unfolding fits
+zero_exponent f s (pos zero) h = refl
+zero_exponent f s (pos (suc k)) h = absurd (omega (arith, lib.Dec.eqb→eq (2 ^ suc k * 1) 1 h))
+zero_exponent f s (negsuc k) h = absurd (omega (arith, lib.Dec.eqb→eq (1 * 2 ^ suc k) 1 h))
+
+sqrt_of_fits : (f : Format) (x : Float) → T (fits f x) → Floats.sqrt f x ≡ sqrt f x
+unfolding Floats.sqrt sqrt
+sqrt_of_fits f nan h = refl
+sqrt_of_fits f (inf s) h = refl
+sqrt_of_fits f (fin s zero e) h = ap (fin s 0) (zero_exponent f s e h)
+sqrt_of_fits f (fin s (suc m) e) h = refl
+
 pub special_roots : (f : Format) → SpecialRoots f
-unfolding Floats.sqrt cbrt
+unfolding Floats.sqrt sqrt cbrt
 special_roots f = record {
   zeros = λ s e. (refl, refl);
   infinities = λ s. (refl, refl);
   below_zero = λ m e. (refl, refl);
   not_numbers = (refl, refl);
+  library = sqrt_of_fits f;
 }

@@ -2,6 +2,7 @@
 use Rattle.std.proofs.Common.{◌≡◌, ℕ, zero, suc, ◌+◌, ◌-◌, ◌*◌, ◌/◌, ◌%◌, ◌^◌, ◌<◌, ◌≤◌, Bool, true, false, T, ◌⊎◌, sym, refl, ap, ◌∙◌, subst, inl, inr, true≢false, le_trans, le_of_eq, lt_of_lt_of_le, le_of_suc-le-suc, lt_of_le_of_lt, mul-le-mul_right, mul_assoc, div-lt_iff_lt-mul, eq-zero-or-pos, mul-le-mul, lt_of_mul-lt-mul_right, eq-or-lt_of_le, mul-lt-mul_of_pos_right, mul-pos, pow-suc, lt_of_not-le, le-div_iff_mul-le, mul_right_comm, not-le_of_lt, mul-div_cancel, arith, pow_pos, pow_mono, pow-add}
 use native.Mathlib.Nat.{pow-le-pow_left, eq_of_mul-eq-mul_right}
 use lib.Ieee.{Float, nan, inf, fin, binary32, up, down, units, fits, is_nan, of_bits, to_bits}
+use lib.Ieee as Ieee
 use lib.Ieee.Fits.{up_pos, down_pos}
 use lib.Ieee.Nearest.{closest, closest_same}
 use lib.Ieee.Order.{drop}
@@ -12,7 +13,7 @@ use Rattle.roots.proofs.Powers.{power_at, square, cube, power_of_product, power_
 use Rattle.roots.proofs.Rounding.{near}
 use Rattle.roots.proofs.FloatRoots.{square_twice, at_own}
 use Rattle.roots.proofs.Signs.{sign_of_units}
-use Rattle.roots.proofs.Patterns.{Parts, steps_low, steps_pos, value_of, nan_bits, inf_bits, not_finite, not_signed, size_is, written}
+use Rattle.roots.proofs.Patterns.{Parts, steps_low, steps_pos, value_of, nan_bits_lem, inf_bits, not_finite, not_signed, size_is, written}
 
 -- ---- less than a half away is the nearest
 
@@ -188,18 +189,18 @@ module _ (b m j q : ℕ) (B : (0 < b) × (b < 255 * 2 ^ 23)) (M : Parts b m j) w
 
   pub sqrt_value : (x : Float) → T (fits binary32 x) → b ≡ to_bits binary32 x → Square → Floats.sqrt binary32 x ≡ units binary32 false ((q + 1) / 2) (j / 2 + 51)
   unfolding Floats.sqrt
-  sqrt_value nan f e W = absurd (omega (arith, nan_bits))
+  sqrt_value nan f e W = absurd (omega (arith, nan_bits_lem))
   sqrt_value (inf s) f e W = absurd (omega (arith, inf_bits s))
   sqrt_value (fin true m d) f e W = absurd (omega (arith, not_signed m d))
   sqrt_value (fin false zero d) f e W = absurd (not_zero (up d) (down d) (steps b) (down_pos d) (steps_pos b B.0) 149 (value_of false 0 b d f (same (fin false 0 d) e) B.1))
   sqrt_value (fin false (suc m) d) f e W =
       let n = scaled (suc m * up d) (down d) (steps b) 149 4393 (down_pos d) (value_of false (suc m) b d f (same (fin false (suc m) d) e) B.1) in
-      let t = Floats.twice-sqrt-sticky (suc m * up d * 2 ^ 4542 / down d) in
+      let t = Ieee.root_twice (suc m * up d * 2 ^ 4542 / down d) in
       sym (at_own binary32 t (2 ^ 2272)) ∙ of_square (suc m * up d * 2 ^ 4542 / down d) t 2272 false (square_twice (suc m * up d * 2 ^ 4542 / down d)) n refl W
 
   cube_units : (x : Float) → T (fits binary32 x) → b ≡ to_bits binary32 x % 2 ^ 31 → Cube → cbrt binary32 x ≡ units binary32 (Floats.is_sign_negative x) ((q + 1) / 2) (j / 3 + 76)
   unfolding cbrt Floats.is_sign_negative
-  cube_units nan f e W = absurd (omega (arith, nan_bits))
+  cube_units nan f e W = absurd (omega (arith, nan_bits_lem))
   cube_units (inf s) f e W = absurd (omega (arith, inf_bits s))
   cube_units (fin s zero d) f e W = absurd (not_zero (up d) (down d) (steps b) (down_pos d) (steps_pos b B.0) 149 (value_of s 0 b d f e B.1))
   cube_units (fin s (suc m) d) f e W =

@@ -49,9 +49,9 @@ value_of s m b e f i h =
     let v = read a (omega arith) in
     (subst (λ (y : Float). HasValue y (leb (2 ^ 31) a) (steps (a % 2 ^ 31)) (2 ^ 149)) (of_bits-to_bits binary32 (fin s m e) f) v).1 ∙ ap (λ (k : ℕ). steps k * down e) (sym i)
 
-pub nan_bits : to_bits binary32 nan % 2 ^ 31 ≡ 255 * 2 ^ 23 + 2 ^ 22
+pub nan_bits_lem : to_bits binary32 nan % 2 ^ 31 ≡ 255 * 2 ^ 23 + 2 ^ 22
 unfolding to_bits
-nan_bits = refl
+nan_bits_lem = refl
 
 pub inf_bits : (s : Bool) → to_bits binary32 (inf s) % 2 ^ 31 ≡ 255 * 2 ^ 23
 unfolding to_bits

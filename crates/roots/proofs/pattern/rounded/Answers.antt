@@ -3,8 +3,8 @@ use Rattle.std.proofs.Common.{sym, arith}
 use Rattle.roots.proofs.Patterns.{below_infinity, written}
 use Rattle.roots.proofs.pattern.rounded.Goals as goal
 
-pub float-from-bits-result : goal.float-from-bits-result
-float-from-bits-result c = below_infinity _ (omega (arith, c.requires))
+pub float_from_bits-result : goal.float_from_bits-result
+float_from_bits-result c = below_infinity _ (omega (arith, c.requires))
 
 pub returns : goal.returns
 returns c = sym (written _ c.args.e (omega (arith, c.requires.0)) (omega (arith, c.requires.1)) c.requires.2)
