@@ -6,34 +6,34 @@ use crate::kind::Number;
 
 /// x × x
 pub fn square<N: Number>(x: N) -> N
-    ensures { result ≡ square_of ops x }
+    ensures { result ≡ square_of N.ops x }
 {
     x.mul(x)
 }
 
 /// (x × x) × x
 pub fn cube<N: Number>(x: N) -> N
-    ensures { result ≡ cube_of ops x }
+    ensures { result ≡ cube_of N.ops x }
 {
     x.mul(x).mul(x)
 }
 
 /// x without its sign
 pub fn size<N: Number>(x: N) -> N
-    ensures { result ≡ size_of ops x }
+    ensures { result ≡ size_of N.ops x }
 {
     if x.lt(N::whole(0)) { x.neg() } else { x }
 }
 
 // m × root of (1 + q × q)
 fn lengthened<N: Number>(m: N, q: N) -> N
-    ensures { result ≡ lengthened_by ops m q }
+    ensures { result ≡ lengthened_by N.ops m q }
 {
     m.mul(N::whole(1).add(q.mul(q)).sqrt())
 }
 
 fn hypot_of_sizes<N: Number>(a: N, b: N) -> N
-    ensures { result ≡ hypot_of_sizes ops a b }
+    ensures { result ≡ hypot_of_sizes N.ops a b }
 {
     if a.lt(b) {
         lengthened(b, a.div(b))
@@ -44,7 +44,7 @@ fn hypot_of_sizes<N: Number>(a: N, b: N) -> N
 
 /// The length of (a, b): 0 if both are 0, else m × root of (1 + q × q), where m is the larger size and q the smaller divided by m.
 pub fn hypot<N: Number>(a: N, b: N) -> N
-    ensures { result ≡ hypot_of ops a b }
+    ensures { result ≡ hypot_of N.ops a b }
 {
     let zero = N::whole(0);
     if a.eq(zero) && b.eq(zero) {

@@ -24,7 +24,7 @@ pub struct PlainTraced<P> {
 impl<N: Number> Traced<N> {
     /// A value of the kind below, without a fault unless it is spoiled.
     pub fn new(value: N) -> Traced<N>
-        ensures { result ≡ result_of ops value None None Cause.Other }
+        ensures { result ≡ result_of N.ops value None None Cause.Other }
     {
         result(value, None, None, Cause::Other)
     }
@@ -39,7 +39,7 @@ impl<N: Number> Traced<N> {
 
 // A result with the faults of its operands and the cause that a new fault has.
 fn result<N: Number>(value: N, a: Option<Fault>, b: Option<Fault>, cause: Cause) -> Traced<N>
-    ensures { result ≡ result_of ops value a b cause }
+    ensures { result ≡ result_of N.ops value a b cause }
 {
     Traced {
         value,
@@ -64,7 +64,29 @@ impl<N: Number> Number for Traced<N> {
 
     ghost back = { traced_back N.Number.back };
 
-    ghost hom = { Prim.search rules };
+    ghost hom = { let below = N.Number.hom in
+        record {
+          add = λ x y. below.add x.value y.value;
+          sub = λ x y. below.sub x.value y.value;
+          mul = λ x y. below.mul x.value y.value;
+          div = λ x y. below.div x.value y.value;
+          neg = λ x. below.neg x.value;
+          min = λ x y. below.min x.value y.value;
+          max = λ x y. below.max x.value y.value;
+          sqrt = λ x. below.sqrt x.value;
+          cbrt = λ x. below.cbrt x.value;
+          whole = λ z. below.whole z;
+          literal = λ d. below.literal d;
+          mark = λ s x. below.mark s x.value;
+          lt = λ x y. below.lt x.value y.value;
+          le = λ x y. below.le x.value y.value;
+          eq = λ x y. below.eq x.value y.value;
+          same = λ x y. below.same x.value y.value;
+          spoiled = λ x. below.spoiled x.value;
+          divisor = λ x. below.divisor x.value;
+          direction = λ x y. below.direction x.value y.value;
+          nearest = λ x. below.nearest x.value;
+        } };
 
     ghost exactness = { Prim.search rules };
 

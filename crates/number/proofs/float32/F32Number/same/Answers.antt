@@ -7,4 +7,4 @@ pub returns : goal.returns
 returns c =
     let p : T (fits binary32 c.args.self) = search rules in
     let q : T (fits binary32 c.args.other) = search rules in
-    rw (c.f32-to-bits-with-nan.ensures, c.f32-to-bits-with-nan-2.ensures) (same_bits binary32 _ _ p q)
+    rw (c.f32_to_bits_with_nan.ensures, c.f32_to_bits_with_nan-2.ensures) (same_bits binary32 _ _ p q)
