@@ -113,7 +113,7 @@ exact-cube s n (p, q) = exact_is 3 s n (N.zero-lt-suc 2) (subst (λ (x : ℕ). x
 
 pub square_below_cube : (s : ℕ) → s * s ≤ s * s * s
 square_below_cube zero = omega arith
-square_below_cube (suc s) = N.le_trans (N.le_of_eq (sym (N.mul_one (suc s * suc s)))) (N.mul-le-mul_left (suc s * suc s) (N.zero-lt-suc s))
+square_below_cube (suc s) = N.le_trans (N.le_of_eq (sym (N.mul-one (suc s * suc s)))) (N.mul-le-mul_left (suc s * suc s) (N.zero-lt-suc s))
 
 -- a base divides its power, and is not above it
 base_divides : (d w : ℕ) → 0 < d → w ∣ w ^ d

@@ -16,7 +16,7 @@ returns-then-x c =
     let p = c.args.self in
     let q = c.args.other in
     c.lost-then-x.ensures
-    ∙ sym (at_values lost sum p q c.if-self.false c.if-other.false ∙ sum_lost (value_of p) (value_of q) _ c.common-divisor-g.ensures.value _ _ c.size.ensures c.size-2.ensures (elim c.then-x.branch [
+    ∙ sym (at_values lost sum p q c.if-self.false c.if-other.false ∙ sum_lost (value_of p) (value_of q) _ c.common_divisor-g.ensures.value _ _ c.size.ensures c.size-2.ensures (elim c.then-x.branch [
       | then-x-via-then-x w ↦ inl w.if-x.true
       | then-x-via-else-x+then-y w ↦ inr (inl w.if-y.true)
       | then-x-via-else-x+else-y+then-e w ↦ inr (inr w.if-e.true)
@@ -26,16 +26,16 @@ returns-then-x c =
 small : (z : ℤ) (b : Bool) (n : ℕ) → z ≡ with_sign b n → n ≤ R → nat_abs z ≤ R
 small z b n e h = subst (λ k. k ≤ R) (sym (ap nat_abs e ∙ size_of b n)) h
 
-pub sum-over-requires : goal.sum-over-requires
-sum-over-requires c =
+pub sum_over-requires : goal.sum_over-requires
+sum_over-requires c =
     let p = c.args.self in
     let q = c.args.other in
-    let x = small _ _ _ c.with-sign.ensures c.if-x.false in
-    let y = small _ _ _ c.with-sign-2.ensures c.if-y.false in (
-      subst (λ z. nat_abs z ≤ R) (sym (passed c.with-sign.result x)) x,
+    let x = small _ _ _ c.with_sign.ensures c.if-x.false in
+    let y = small _ _ _ c.with_sign-2.ensures c.if-y.false in (
+      subst (λ z. nat_abs z ≤ R) (sym (passed c.with_sign.result x)) x,
       (
-        subst (λ z. nat_abs z ≤ R) (sym (passed c.with-sign-2.result y)) y,
-        (subst (λ g. 0 < p.denominator * (q.denominator / g)) (sym c.common-divisor-g.ensures.value) (N.mul-pos p.positive (quot_above p.denominator q.denominator q.positive)), c.if-e.false),
+        subst (λ z. nat_abs z ≤ R) (sym (passed c.with_sign-2.result y)) y,
+        (subst (λ g. 0 < p.denominator * (q.denominator / g)) (sym c.common_divisor-g.ensures.value) (N.mul-pos p.positive (quot_above p.denominator q.denominator q.positive)), c.if-e.false),
       ),
     )
 
@@ -43,9 +43,9 @@ pub returns : goal.returns
 returns c =
     let p = c.args.self in
     let q = c.args.other in
-    let x = small _ _ _ c.with-sign.ensures c.if-x.false in
-    let y = small _ _ _ c.with-sign-2.ensures c.if-y.false in
-    c.sum-over.ensures
-    ∙ sum_kept (value_of p) (value_of q) _ c.common-divisor-g.ensures.value _ _ c.size.ensures c.size-2.ensures _ _ c.is-negative.ensures c.is-negative-2.ensures _ _
-    (passed _ x ∙ c.with-sign.ensures) (passed _ y ∙ c.with-sign-2.ensures) c.if-x.false c.if-y.false c.if-e.false
+    let x = small _ _ _ c.with_sign.ensures c.if-x.false in
+    let y = small _ _ _ c.with_sign-2.ensures c.if-y.false in
+    c.sum_over.ensures
+    ∙ sum_kept (value_of p) (value_of q) _ c.common_divisor-g.ensures.value _ _ c.size.ensures c.size-2.ensures _ _ c.is_negative.ensures c.is_negative-2.ensures _ _
+    (passed _ x ∙ c.with_sign.ensures) (passed _ y ∙ c.with_sign-2.ensures) c.if-x.false c.if-y.false c.if-e.false
     ∙ sym (at_values lost sum p q c.if-self.false c.if-other.false)

@@ -11,14 +11,14 @@ down : (k : ℕ) → k ≤ 1000000 → to_z w32 (of_z w32 (pos 0 -ℤ to_z w32 k
 down k h = omega (arith, ints)
 
 pub returns-then-k-gt1000000 : goal.returns-then-k-gt1000000
-returns-then-k-gt1000000 c = rounded_none (value_of c.args.self) _ c.nearest-size-k.ensures c.if-k-gt1000000.true
+returns-then-k-gt1000000 c = rounded_none (value_of c.args.self) _ c.nearest_size-k.ensures c.if-k-gt1000000.true
 
-pub returns-then-is-negative : goal.returns-then-is-negative
-returns-then-is-negative c =
+pub returns-then-is_negative : goal.returns-then-is_negative
+returns-then-is_negative c =
     let k = c.if-k-gt1000000.false in
-    rounded_some (value_of c.args.self) _ c.nearest-size-k.ensures _ _ (sym c.if-is-negative.true ∙ c.is-negative.ensures) k (down _ k)
+    rounded_some (value_of c.args.self) _ c.nearest_size-k.ensures _ _ (sym c.if-is_negative.true ∙ c.is_negative.ensures) k (down _ k)
 
-pub returns-else-is-negative : goal.returns-else-is-negative
-returns-else-is-negative c =
+pub returns-else-is_negative : goal.returns-else-is_negative
+returns-else-is_negative c =
     let k = c.if-k-gt1000000.false in
-    rounded_some (value_of c.args.self) _ c.nearest-size-k.ensures _ _ (sym c.if-is-negative.false ∙ c.is-negative.ensures) k (up _ k)
+    rounded_some (value_of c.args.self) _ c.nearest_size-k.ensures _ _ (sym c.if-is_negative.false ∙ c.is_negative.ensures) k (up _ k)

@@ -7,17 +7,17 @@ use Rattle.fraction.proofs.Signs.{is_lowest}
 use Rattle.fraction.proofs.Values.{at_values, product_parts, product_test}
 use Rattle.fraction.proofs.fraction.Fraction.times.Goals as goal
 
-pub product-of-requires : goal.product-of-requires
-product-of-requires c =
+pub product_of-requires : goal.product_of-requires
+product_of-requires c =
     let p = c.args.self in
     let q = c.args.other in
-    let is = product_parts (value_of p) (value_of q) _ _ _ _ c.is-negative.ensures c.is-negative-2.ensures c.size.ensures c.size-2.ensures in
+    let is = product_parts (value_of p) (value_of q) _ _ _ _ c.is_negative.ensures c.is_negative-2.ensures c.size.ensures c.size-2.ensures in
     (p.positive, (q.positive, is_lowest (exact.mul (value_of p) (value_of q)) _ _ _ is))
 
 pub returns : goal.returns
 returns c =
     let p = c.args.self in
     let q = c.args.other in
-    let is = product_parts (value_of p) (value_of q) _ _ _ _ c.is-negative.ensures c.is-negative-2.ensures c.size.ensures c.size-2.ensures in
-    let test = product_test (value_of p) (value_of q) _ _ _ _ c.is-negative.ensures c.is-negative-2.ensures c.size.ensures c.size-2.ensures in
-    c.product-of.ensures (exact.mul (value_of p) (value_of q)) is ∙ test ∙ sym (at_values lost product p q c.if-self.false c.if-other.false)
+    let is = product_parts (value_of p) (value_of q) _ _ _ _ c.is_negative.ensures c.is_negative-2.ensures c.size.ensures c.size-2.ensures in
+    let test = product_test (value_of p) (value_of q) _ _ _ _ c.is_negative.ensures c.is_negative-2.ensures c.size.ensures c.size-2.ensures in
+    c.product_of.ensures (exact.mul (value_of p) (value_of q)) is ∙ test ∙ sym (at_values lost product p q c.if-self.false c.if-other.false)

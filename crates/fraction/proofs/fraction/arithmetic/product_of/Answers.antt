@@ -7,11 +7,11 @@ use Rattle.fraction.proofs.Values.{product_lost, product-kept}
 use Rattle.fraction.proofs.fraction.arithmetic.product_of.Goals as goal
 use Rattle.fraction.proofs.fraction.arithmetic.product_of.Goals.{then-n-via-then-n, then-n-via-else-n+then-e}
 
-pub in-lowest-terms-requires : goal.in-lowest-terms-requires
-in-lowest-terms-requires c =
+pub in_lowest_terms-requires : goal.in_lowest_terms-requires
+in_lowest_terms-requires c =
     let v = c.args in
-    let g = c.common-divisor-g.ensures.value in
-    let h = c.common-divisor-h.ensures.value in (
+    let g = c.common_divisor-g.ensures.value in
+    let h = c.common_divisor-h.ensures.value in (
       c.if-n.false,
       (
         subst₂ (λ x y. 0 < v.b / y * (v.d / x)) (sym g) (sym h) (N.mul-pos (quot_above v.c v.b c.requires.0) (quot_above v.a v.d c.requires.1.0)),
@@ -23,7 +23,7 @@ pub returns-then-n : goal.returns-then-n
 returns-then-n c =
     let v = c.args in
     λ x is. c.lost.ensures
-    ∙ sym (product_lost v.a v.b v.c v.d _ _ c.common-divisor-g.ensures.value c.common-divisor-h.ensures.value x (elim c.then-n.branch [
+    ∙ sym (product_lost v.a v.b v.c v.d _ _ c.common_divisor-g.ensures.value c.common_divisor-h.ensures.value x (elim c.then-n.branch [
       | then-n-via-then-n w ↦ inl w.if-n.true
       | then-n-via-else-n+then-e w ↦ inr w.if-e.true
     ]))
@@ -31,7 +31,7 @@ returns-then-n c =
 pub returns : goal.returns
 returns c =
     let v = c.args in
-    let g = c.common-divisor-g.ensures.value in
-    let h = c.common-divisor-h.ensures.value in
-    λ x is. c.in-lowest-terms.ensures x (is.0 ∙ sym (ap₂ (λ x y. with_sign v.negative (v.a / x * (v.c / y))) g h), is.1 ∙ sym (ap₂ (λ x y. v.b / y * (v.d / x)) g h))
+    let g = c.common_divisor-g.ensures.value in
+    let h = c.common_divisor-h.ensures.value in
+    λ x is. c.in_lowest_terms.ensures x (is.0 ∙ sym (ap₂ (λ x y. with_sign v.negative (v.a / x * (v.c / y))) g h), is.1 ∙ sym (ap₂ (λ x y. v.b / y * (v.d / x)) g h))
     ∙ sym (product-kept v.a v.b v.c v.d _ _ g h x c.if-n.false c.if-e.false)

@@ -8,5 +8,5 @@ use Rattle.fraction.proofs.fraction.made.in_lowest_terms.Goals as goal
 
 pub returns : goal.returns
 returns c =
-    let small : nat_abs c.with-sign.result ≤ R = subst (λ z. z ≤ R) (sym (ap nat_abs c.with-sign.ensures ∙ size_of c.args.negative c.args.size)) c.requires.0 in
-    λ x is. ap fraction (same_parts (passed c.with-sign.result small ∙ c.with-sign.ensures ∙ sym is.0) (sym is.1))
+    let small : nat_abs c.with_sign.result ≤ R = subst (λ z. z ≤ R) (sym (ap nat_abs c.with_sign.ensures ∙ size_of c.args.negative c.args.size)) c.requires.0 in
+    λ x is. ap fraction (same_parts (passed c.with_sign.result small ∙ c.with_sign.ensures ∙ sym is.0) (sym is.1))

@@ -2,5 +2,5 @@ use Rattle.std.proofs.Common.{refl, lit<, lit≤}
 use Rattle.fraction.specs.Fractions.{gcd-one}
 use Rattle.fraction.proofs.fraction.made.lost.Goals as goal
 
-pub invariant-of-result : goal.invariant-of-result
-invariant-of-result c = (lit< tt, (lit≤ tt, (lit≤ tt, (gcd-one, ((λ _. (refl, refl)), tt)))))
+pub invariant_of-result : goal.invariant_of-result
+invariant_of-result c = record { positive = lit< tt; lower = lit≤ tt; upper = lit≤ tt; lowest = gcd-one; empty = (λ _. (refl, refl)) }

@@ -2,4 +2,4 @@ use Rattle.fraction.specs.Packs.{packed}
 use Rattle.fraction.proofs.fraction.number.FractionNumber.literal.Goals as goal
 
 pub returns : goal.returns
-returns c = packed _ c.of-literal.ensures
+returns c = packed _ c.of_literal.ensures

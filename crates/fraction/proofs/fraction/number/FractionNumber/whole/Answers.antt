@@ -6,4 +6,4 @@ use Rattle.fraction.specs.Packs.{packed}
 use Rattle.fraction.proofs.fraction.number.FractionNumber.whole.Goals as goal
 
 pub returns : goal.returns
-returns c = packed _ (c.of-whole.ensures ∙ ap (λ n. constant (exact.lit n 0)) (to_z-of_z w64 _ c.ranges.n))
+returns c = packed _ (c.of_whole.ensures ∙ ap (λ n. constant (exact.lit n 0)) (to_z-of_z w64 _ c.ranges.n))
