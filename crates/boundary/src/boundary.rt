@@ -29,14 +29,14 @@ pub trait Boundary<N: Number> {
 
     /// The three numbers, whatever they are.
     fn values(&mut self, lightness: N, a: N, b: N) -> ChromaValues<N>
-        ensures gives { right self.old → map_values means result ≡ meaning self.old (query_by means lightness a b) }
+        ensures gives { right self.old → map_values N.means result ≡ meaning self.old (query_by N.means lightness a b) }
         ensures stays { Stays right meaning model self.old self.new };
 
     /// The three numbers of an accepted query. It is refused with 7 exactly when not 0 < lightness < 1, or one of the
     /// three is spoiled, or not 0 < zero, or not 0 < mid < max.
     fn query(&mut self, lightness: N, a: N, b: N) -> Result<ChromaValues<N>, NumberFault>
-        ensures gives { right self.old → (v : Values N) × (map_values means v ≡ meaning self.old (query_by means lightness a b)) × (result ≡ admitted ops traced lightness v) }
-        ensures means { right self.old → meant (map_values means) result ≡ answered arith (meaning self.old) (query_by means lightness a b) }
+        ensures gives { right self.old → (v : Values N) × (map_values N.means v ≡ meaning self.old (query_by N.means lightness a b)) × (result ≡ admitted N.ops N.traced lightness v) }
+        ensures means { right self.old → meant (map_values N.means) result ≡ answered N.arith (meaning self.old) (query_by N.means lightness a b) }
         ensures stays { Stays right meaning model self.old self.new }
     {
         let v = self.values(lightness, a, b);
@@ -48,14 +48,14 @@ pub trait Boundary<N: Number> {
         ensures emptied { right self.old → fresh self.new }
         ensures stays { Stays right meaning model self.old self.new };
 
-    ghost modelled: { (s : Self) (q : Query Meaning) → meaning s q ≡ modelled arith (model s) q };
+    ghost as_modelled: { (s : Self) (q : Query Meaning) → meaning s q ≡ modelled N.arith (model s) q };
 
     ghost sound: { (s : Self) → fresh s → right s };
 }
 
 // The trace of the first spoiled number.
 fn first_trace<N: Number>(lightness: N, v: ChromaValues<N>) -> Option<(u8, u8)>
-    ensures { result ≡ first_trace ops traced lightness v }
+    ensures { result ≡ first_trace N.ops N.traced lightness v }
 {
     if lightness.is_spoiled() {
         return lightness.trace();
@@ -74,7 +74,7 @@ fn first_trace<N: Number>(lightness: N, v: ChromaValues<N>) -> Option<(u8, u8)>
 
 /// The rule by which a query of this lightness with these three numbers is answered or refused.
 pub fn admit<N: Number>(lightness: N, v: ChromaValues<N>) -> Result<ChromaValues<N>, NumberFault>
-    ensures { result ≡ admitted ops traced lightness v }
+    ensures { result ≡ admitted N.ops N.traced lightness v }
 {
     let zero = N::whole(0);
     let one = N::whole(1);

@@ -37,9 +37,9 @@ impl<B: Drop> From<Returned<B>> for NumberFault {
 impl<N: Number, B: Boundary<N>> Margin<N, B> {
     /// A margin over the boundary, which is given back with `NumberFault::Range` unless the factor is above 0 and at most 1.
     pub fn new(factor: N, below: B) -> Result<Margin<N, B>, Returned<B>>
-        ensures which { result ≡ made_margin ops factor below }
-        ensures model { IfOk result (λ m. margin_model arith means model m ≡ with_factor (means factor) (model below)) }
-        ensures stacks { IfOk result (Stacks right fresh (MarginIs arith means right) (MarginIs arith means fresh) below) }
+        ensures which { result ≡ made_margin N.ops factor below }
+        ensures model { IfOk result (λ m. margin_model N.arith N.means B.model m ≡ with_factor (N.means factor) (B.model below)) }
+        ensures stacks { IfOk result (Stacks B.right B.fresh (MarginIs N.arith N.means B.right) (MarginIs N.arith N.means B.fresh) below) }
     {
         if factor.is_spoiled() || !N::whole(0).lt(factor) || !factor.le(N::whole(1)) {
             return Err(Returned {
@@ -53,7 +53,7 @@ impl<N: Number, B: Boundary<N>> Margin<N, B> {
 
 // The three numbers times a factor.
 fn shrink<N: Number>(v: ChromaValues<N>, factor: N) -> ChromaValues<N>
-    ensures { result ≡ times ops v factor }
+    ensures { result ≡ times N.ops v factor }
 {
     ChromaValues {
         zero: v.zero.mul(factor),
@@ -63,22 +63,22 @@ fn shrink<N: Number>(v: ChromaValues<N>, factor: N) -> ChromaValues<N>
 }
 
 impl<N: Number, B: Boundary<N>> Boundary<N> for Margin<N, B> {
-    ghost meaning = { margin_meaning arith means meaning };
+    ghost meaning = { margin_meaning N.arith N.means B.meaning };
 
-    ghost model = { margin_model arith means model };
+    ghost model = { margin_model N.arith N.means B.model };
 
-    ghost right = { MarginIs arith means right };
+    ghost right = { MarginIs N.arith N.means B.right };
 
-    ghost fresh = { MarginIs arith means fresh };
+    ghost fresh = { MarginIs N.arith N.means B.fresh };
 
-    ghost modelled = { λ s q. ap (λ v. times N.Number.arith v (N.Number.means s.factor)) (B.Boundary.modelled s.below q) };
+    ghost as_modelled = { λ s q. ap (λ v. times N.Number.arith v (N.Number.means s.factor)) (B.Boundary.as_modelled s.below q) };
 
     ghost sound = { Prim.search rules };
 
     fn values(&mut self, lightness: N, a: N, b: N) -> ChromaValues<N>
-        ensures gives { MarginIs arith means right self.old → map_values means result ≡ margin_meaning arith means meaning self.old (query_by means lightness a b) }
-        ensures stays { Stays (MarginIs arith means right) (margin_meaning arith means meaning) (margin_model arith means model) self.old self.new }
-        ensures product { right self.old.below → (v : Values N) × (map_values means v ≡ meaning self.old.below (query_by means lightness a b)) × (result ≡ times ops v self.old.factor) }
+        ensures gives { MarginIs N.arith N.means B.right self.old → map_values N.means result ≡ margin_meaning N.arith N.means B.meaning self.old (query_by N.means lightness a b) }
+        ensures stays { Stays (MarginIs N.arith N.means B.right) (margin_meaning N.arith N.means B.meaning) (margin_model N.arith N.means B.model) self.old self.new }
+        ensures product { B.right self.old.below → (v : Values N) × (map_values N.means v ≡ B.meaning self.old.below (query_by N.means lightness a b)) × (result ≡ times N.ops v self.old.factor) }
     {
         let v = self.below.values(lightness, a, b);
         shrink(v, self.factor)

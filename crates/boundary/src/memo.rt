@@ -33,8 +33,8 @@ impl<N: Number, B: Boundary<N>> Memo<N, B> {
     /// An empty memo over the boundary.
     pub fn new(below: B) -> Memo<N, B>
         ensures which { result ≡ record { below = below; kept = None } }
-        ensures model { memo_model model result ≡ model below }
-        ensures stacks { Stacks right fresh (MemoRight means meaning right) (MemoFresh fresh) below result }
+        ensures model { memo_model B.model result ≡ B.model below }
+        ensures stacks { Stacks B.right B.fresh (MemoRight N.means B.meaning B.right) (MemoFresh B.fresh) below result }
     {
         Memo { below, kept: None }
     }
@@ -49,7 +49,7 @@ impl<N: Number, B: Boundary<N>> Memo<N, B> {
 
 // What is kept for a query.
 fn recall<N: Number>(kept: Option<Kept<N>>, lightness: N, a: N, b: N) -> Option<ChromaValues<N>>
-    ensures { result ≡ recalled_from ops kept lightness a b }
+    ensures { result ≡ recalled_from N.ops kept lightness a b }
 {
     match kept {
         Some(k) => {
@@ -71,7 +71,7 @@ fn keep<N: Number>(
     b: N,
     v: ChromaValues<N>,
 ) -> Option<Kept<N>>
-    ensures { result ≡ after kept lightness a b (admitted ops traced lightness v) }
+    ensures { result ≡ after kept lightness a b (admitted N.ops N.traced lightness v) }
 {
     let latest = Kept {
         lightness,
@@ -86,23 +86,23 @@ fn keep<N: Number>(
 }
 
 impl<N: Number, B: Boundary<N>> Boundary<N> for Memo<N, B> {
-    ghost meaning = { memo_meaning meaning };
+    ghost meaning = { memo_meaning B.meaning };
 
-    ghost model = { memo_model model };
+    ghost model = { memo_model B.model };
 
-    ghost right = { MemoRight means meaning right };
+    ghost right = { MemoRight N.means B.meaning B.right };
 
-    ghost fresh = { MemoFresh fresh };
+    ghost fresh = { MemoFresh B.fresh };
 
-    ghost modelled = { Prim.search rules };
+    ghost as_modelled = { Prim.search rules };
 
     ghost sound = { Prim.search rules };
 
     /// Recalls the kept query's three numbers; those of another query come from below, and an accepted one is kept.
     fn values(&mut self, lightness: N, a: N, b: N) -> ChromaValues<N>
-        ensures gives { MemoRight means meaning right self.old → map_values means result ≡ memo_meaning meaning self.old (query_by means lightness a b) }
-        ensures stays { Stays (MemoRight means meaning right) (memo_meaning meaning) (memo_model model) self.old self.new }
-        ensures recalls { Recalls means (λ k. k.answer) (λ v. after self.old.kept lightness a b (admitted ops traced lightness v)) self.old lightness a b result self.new }
+        ensures gives { MemoRight N.means B.meaning B.right self.old → map_values N.means result ≡ memo_meaning B.meaning self.old (query_by N.means lightness a b) }
+        ensures stays { Stays (MemoRight N.means B.meaning B.right) (memo_meaning B.meaning) (memo_model B.model) self.old self.new }
+        ensures recalls { Recalls N.means (λ k. k.answer) (λ v. after self.old.kept lightness a b (admitted N.ops N.traced lightness v)) self.old lightness a b result self.new }
     {
         if let Some(v) = recall(self.kept, lightness, a, b) {
             return v;
@@ -114,10 +114,10 @@ impl<N: Number, B: Boundary<N>> Boundary<N> for Memo<N, B> {
 
     /// The same with the rule of refusal.
     fn query(&mut self, lightness: N, a: N, b: N) -> Result<ChromaValues<N>, NumberFault>
-        ensures gives { MemoRight means meaning right self.old → (v : Values N) × (map_values means v ≡ memo_meaning meaning self.old (query_by means lightness a b)) × (result ≡ admitted ops traced lightness v) }
-        ensures means { MemoRight means meaning right self.old → meant (map_values means) result ≡ answered arith (memo_meaning meaning self.old) (query_by means lightness a b) }
-        ensures stays { Stays (MemoRight means meaning right) (memo_meaning meaning) (memo_model model) self.old self.new }
-        ensures recalls { Recalls means (λ k. admitted ops traced lightness k.answer) (after self.old.kept lightness a b) self.old lightness a b result self.new }
+        ensures gives { MemoRight N.means B.meaning B.right self.old → (v : Values N) × (map_values N.means v ≡ memo_meaning B.meaning self.old (query_by N.means lightness a b)) × (result ≡ admitted N.ops N.traced lightness v) }
+        ensures means { MemoRight N.means B.meaning B.right self.old → meant (map_values N.means) result ≡ answered N.arith (memo_meaning B.meaning self.old) (query_by N.means lightness a b) }
+        ensures stays { Stays (MemoRight N.means B.meaning B.right) (memo_meaning B.meaning) (memo_model B.model) self.old self.new }
+        ensures recalls { Recalls N.means (λ k. admitted N.ops N.traced lightness k.answer) (after self.old.kept lightness a b) self.old lightness a b result self.new }
     {
         let v = self.values(lightness, a, b);
         admit(lightness, v)
@@ -125,8 +125,8 @@ impl<N: Number, B: Boundary<N>> Boundary<N> for Memo<N, B> {
 
     /// Empties the memo, and those below.
     fn forget(&mut self)
-        ensures emptied { MemoRight means meaning right self.old → MemoFresh fresh self.new }
-        ensures stays { Stays (MemoRight means meaning right) (memo_meaning meaning) (memo_model model) self.old self.new }
+        ensures emptied { MemoRight N.means B.meaning B.right self.old → MemoFresh B.fresh self.new }
+        ensures stays { Stays (MemoRight N.means B.meaning B.right) (memo_meaning B.meaning) (memo_model B.model) self.old self.new }
         ensures forgets { self.new.kept ≡ None }
     {
         self.kept = None;

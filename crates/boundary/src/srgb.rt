@@ -26,22 +26,22 @@ impl Srgb {
 }
 
 impl<N: Number> Boundary<N> for Srgb {
-    ghost meaning = { srgb_meaning arith };
+    ghost meaning = { srgb_meaning N.arith };
 
-    ghost model = { srgb_model arith };
+    ghost model = { srgb_model N.arith };
 
     ghost right = { always };
 
     ghost fresh = { always };
 
-    ghost modelled = { Prim.search rules };
+    ghost as_modelled = { Prim.search rules };
 
     ghost sound = { Prim.search rules };
 
     fn values(&mut self, lightness: N, a: N, b: N) -> ChromaValues<N>
-        ensures gives { always self.old → map_values means result ≡ srgb_meaning arith self.old (query_by means lightness a b) }
-        ensures stays { Stays always (srgb_meaning arith) (srgb_model arith) self.old self.new }
-        ensures which { result ≡ srgb_at ops (record { lightness = lightness; a = a; b = b }) }
+        ensures gives { always self.old → map_values N.means result ≡ srgb_meaning N.arith self.old (query_by N.means lightness a b) }
+        ensures stays { Stays always (srgb_meaning N.arith) (srgb_model N.arith) self.old self.new }
+        ensures which { result ≡ srgb_at N.ops (record { lightness = lightness; a = a; b = b }) }
         ensures same { self.new ≡ self.old }
     {
         from_normalized(lightness, Direction { a, b })
@@ -50,7 +50,7 @@ impl<N: Number> Boundary<N> for Srgb {
     /// sRGB has nothing to forget.
     fn forget(&mut self)
         ensures emptied { always self.old → always self.new }
-        ensures stays { Stays always (srgb_meaning arith) (srgb_model arith) self.old self.new }
+        ensures stays { Stays always (srgb_meaning N.arith) (srgb_model N.arith) self.old self.new }
         ensures same { self.new ≡ self.old }
     {}
 }

@@ -21,8 +21,8 @@ pub struct Triangle<N> {
 impl<N: Number> Triangle<N> {
     /// A triangle with these slopes, refused with `NumberFault::Range` unless both are above 0.
     pub fn new(s: N, t: N) -> Result<Triangle<N>, NumberFault>
-        ensures which { result ≡ made_triangle ops s t }
-        ensures model { IfOk result (λ x. triangle_model arith means x ≡ of_base (triangle_of arith (means s) (means t))) }
+        ensures which { result ≡ made_triangle N.ops s t }
+        ensures model { IfOk result (λ x. triangle_model N.arith N.means x ≡ of_base (triangle_of N.arith (N.means s) (N.means t))) }
     {
         let zero = N::whole(0);
         if s.is_spoiled() || !zero.lt(s) || t.is_spoiled() || !zero.lt(t) {
@@ -34,7 +34,7 @@ impl<N: Number> Triangle<N> {
 
 // The three numbers at a lightness.
 fn three_numbers<N: Number>(s: N, t: N, lightness: N) -> ChromaValues<N>
-    ensures { result ≡ triangle_at ops s t lightness }
+    ensures { result ≡ triangle_at N.ops s t lightness }
 {
     let rise = lightness.mul(s);
     let fall = N::whole(1).sub(lightness).mul(t);
@@ -47,22 +47,22 @@ fn three_numbers<N: Number>(s: N, t: N, lightness: N) -> ChromaValues<N>
 }
 
 impl<N: Number> Boundary<N> for Triangle<N> {
-    ghost meaning = { triangle_meaning arith means };
+    ghost meaning = { triangle_meaning N.arith N.means };
 
-    ghost model = { triangle_model arith means };
+    ghost model = { triangle_model N.arith N.means };
 
     ghost right = { always };
 
     ghost fresh = { always };
 
-    ghost modelled = { Prim.search rules };
+    ghost as_modelled = { Prim.search rules };
 
     ghost sound = { Prim.search rules };
 
     fn values(&mut self, lightness: N, a: N, b: N) -> ChromaValues<N>
-        ensures gives { always self.old → map_values means result ≡ triangle_meaning arith means self.old (query_by means lightness a b) }
-        ensures stays { Stays always (triangle_meaning arith means) (triangle_model arith means) self.old self.new }
-        ensures which { result ≡ triangle_of ops self.old.s self.old.t (record { lightness = lightness; a = a; b = b }) }
+        ensures gives { always self.old → map_values N.means result ≡ triangle_meaning N.arith N.means self.old (query_by N.means lightness a b) }
+        ensures stays { Stays always (triangle_meaning N.arith N.means) (triangle_model N.arith N.means) self.old self.new }
+        ensures which { result ≡ triangle_of N.ops self.old.s self.old.t (record { lightness = lightness; a = a; b = b }) }
         ensures same { self.new ≡ self.old }
     {
         three_numbers(self.s, self.t, lightness)
@@ -71,7 +71,7 @@ impl<N: Number> Boundary<N> for Triangle<N> {
     /// A triangle has nothing to forget.
     fn forget(&mut self)
         ensures emptied { always self.old → always self.new }
-        ensures stays { Stays always (triangle_meaning arith means) (triangle_model arith means) self.old self.new }
+        ensures stays { Stays always (triangle_meaning N.arith N.means) (triangle_model N.arith N.means) self.old self.new }
         ensures same { self.new ≡ self.old }
     {}
 }

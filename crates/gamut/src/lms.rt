@@ -14,7 +14,7 @@ pub struct Lms<N> {
 
 // The cube of each number.
 pub(crate) fn cubes<N: Number>(c: Lms<N>) -> Lms<N>
-    ensures { result ≡ cubes_of ops c }
+    ensures { result ≡ cubes_of N.ops c }
 {
     Lms {
         l: cube(c.l),
@@ -25,7 +25,7 @@ pub(crate) fn cubes<N: Number>(c: Lms<N>) -> Lms<N>
 
 // The cube root of each number.
 pub(crate) fn cube_roots<N: Number>(c: Lms<N>) -> Lms<N>
-    ensures { result ≡ cube_roots ops c }
+    ensures { result ≡ cube_roots N.ops c }
 {
     Lms {
         l: c.l.cbrt(),

@@ -21,14 +21,14 @@ pub struct Mat3<N> {
 }
 
 fn dot<N: Number>(row: Vec3<N>, v: Vec3<N>) -> N
-    ensures { result ≡ dot_of ops row v }
+    ensures { result ≡ dot_of N.ops row v }
 {
     row.x.mul(v.x).add(row.y.mul(v.y)).add(row.z.mul(v.z))
 }
 
 // A matrix times a vector.
 pub(crate) fn multiply_3x3_and_vec3<N: Number>(matrix: Mat3<N>, vector: Vec3<N>) -> Vec3<N>
-    ensures { result ≡ times ops matrix vector }
+    ensures { result ≡ times N.ops matrix vector }
 {
     Vec3 {
         x: dot(matrix.first, vector),

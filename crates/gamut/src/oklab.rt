@@ -19,7 +19,7 @@ pub struct Oklab<N> {
 
 // Oklab to the cube roots of LMS.
 fn roots_of<N: Number>(c: Oklab<N>) -> Lms<N>
-    ensures { result ≡ roots_of ops c }
+    ensures { result ≡ roots_of N.ops c }
 {
     let l = c
         .l
@@ -37,7 +37,7 @@ fn roots_of<N: Number>(c: Oklab<N>) -> Lms<N>
 }
 
 fn lms_to_rgb<N: Number>(c: Lms<N>) -> LinSrgb<N>
-    ensures { result ≡ lms_to_rgb ops c }
+    ensures { result ≡ lms_to_rgb N.ops c }
 {
     let red = N::literal(Literal::RedL)
         .mul(c.l)
@@ -55,7 +55,7 @@ fn lms_to_rgb<N: Number>(c: Lms<N>) -> LinSrgb<N>
 }
 
 fn marked_rgb<N: Number>(c: LinSrgb<N>) -> LinSrgb<N>
-    ensures { result ≡ marked_rgb ops c }
+    ensures { result ≡ marked_rgb N.ops c }
 {
     LinSrgb {
         red: c.red.mark(Stage::Matrix),
@@ -66,14 +66,14 @@ fn marked_rgb<N: Number>(c: LinSrgb<N>) -> LinSrgb<N>
 
 /// The linear sRGB of a colour in Oklab.
 pub fn oklab_to_linear_srgb<N: Number>(c: Oklab<N>) -> LinSrgb<N>
-    ensures value { result ≡ oklab_to_linear_srgb ops c }
-    ensures meaning { map_rgb means result ≡ oklab_to_linear_srgb arith (map_oklab means c) }
+    ensures value { result ≡ oklab_to_linear_srgb N.ops c }
+    ensures meaning { map_rgb N.means result ≡ oklab_to_linear_srgb N.arith (map_oklab N.means c) }
 {
     marked_rgb(lms_to_rgb(cubes(roots_of(c))))
 }
 
 fn rgb_to_lms<N: Number>(c: LinSrgb<N>) -> Lms<N>
-    ensures { result ≡ rgb_to_lms ops c }
+    ensures { result ≡ rgb_to_lms N.ops c }
 {
     let l = N::literal(Literal::RgbLongR)
         .mul(c.red)
@@ -91,7 +91,7 @@ fn rgb_to_lms<N: Number>(c: LinSrgb<N>) -> Lms<N>
 }
 
 fn roots_to_oklab<N: Number>(c: Lms<N>) -> Oklab<N>
-    ensures { result ≡ roots_to_oklab ops c }
+    ensures { result ≡ roots_to_oklab N.ops c }
 {
     let l = N::literal(Literal::LabLL)
         .mul(c.l)
@@ -109,7 +109,7 @@ fn roots_to_oklab<N: Number>(c: Lms<N>) -> Oklab<N>
 }
 
 fn marked_oklab<N: Number>(c: Oklab<N>) -> Oklab<N>
-    ensures { result ≡ marked_oklab ops c }
+    ensures { result ≡ marked_oklab N.ops c }
 {
     Oklab {
         l: c.l.mark(Stage::Matrix),
@@ -120,15 +120,15 @@ fn marked_oklab<N: Number>(c: Oklab<N>) -> Oklab<N>
 
 /// The Oklab of a colour in linear sRGB.
 pub fn linear_srgb_to_oklab<N: Number>(c: LinSrgb<N>) -> Oklab<N>
-    ensures value { result ≡ linear_srgb_to_oklab ops c }
-    ensures meaning { map_oklab means result ≡ linear_srgb_to_oklab arith (map_rgb means c) }
+    ensures value { result ≡ linear_srgb_to_oklab N.ops c }
+    ensures meaning { map_oklab N.means result ≡ linear_srgb_to_oklab N.arith (map_rgb N.means c) }
 {
     marked_oklab(roots_to_oklab(cube_roots(rgb_to_lms(c))))
 }
 
 // XYZ to LMS.
 fn m1<N: Number>() -> Mat3<N>
-    ensures { result ≡ m1_of ops }
+    ensures { result ≡ m1_of N.ops }
 {
     Mat3 {
         first: Vec3 {
@@ -151,7 +151,7 @@ fn m1<N: Number>() -> Mat3<N>
 
 // The cube roots of LMS to Oklab.
 fn m2<N: Number>() -> Mat3<N>
-    ensures { result ≡ m2_of ops }
+    ensures { result ≡ m2_of N.ops }
 {
     Mat3 {
         first: Vec3 {
@@ -174,8 +174,8 @@ fn m2<N: Number>() -> Mat3<N>
 
 /// The Oklab of a colour in XYZ.
 pub fn xyz_to_oklab<N: Number>(c: Xyz<N>) -> Oklab<N>
-    ensures value { result ≡ xyz_to_oklab ops c }
-    ensures meaning { map_oklab means result ≡ xyz_to_oklab arith (map_xyz means c) }
+    ensures value { result ≡ xyz_to_oklab N.ops c }
+    ensures meaning { map_oklab N.means result ≡ xyz_to_oklab N.arith (map_xyz N.means c) }
 {
     let xyz = Vec3 {
         x: c.x,

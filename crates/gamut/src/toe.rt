@@ -8,7 +8,7 @@ use number::{Literal, Number, Stage, square};
 
 // (1 + k1) ÷ (1 + k2), which takes 1 to 1.
 fn k3<N: Number>() -> N
-    ensures { result ≡ ratio (basic ops) }
+    ensures { result ≡ ratio (basic N.ops) }
 {
     let one = N::whole(1);
     let k1 = N::literal(Literal::Toe1);
@@ -18,7 +18,7 @@ fn k3<N: Number>() -> N
 
 // u = k3 L − k1
 fn toe_u<N: Number>(lightness: N) -> N
-    ensures { result ≡ toe_u (basic ops) lightness }
+    ensures { result ≡ toe_u (basic N.ops) lightness }
 {
     let k3: N = k3();
     k3.mul(lightness).sub(N::literal(Literal::Toe1))
@@ -26,7 +26,7 @@ fn toe_u<N: Number>(lightness: N) -> N
 
 // u² + 4 k2 k3 L, which stands below the root.
 fn toe_square<N: Number>(lightness: N) -> N
-    ensures { result ≡ toe_square (basic ops) lightness }
+    ensures { result ≡ toe_square (basic N.ops) lightness }
 {
     let k2 = N::literal(Literal::Toe2);
     square(toe_u(lightness)).add(N::whole(4).mul(k2).mul(k3()).mul(lightness))
@@ -34,8 +34,8 @@ fn toe_square<N: Number>(lightness: N) -> N
 
 /// The lightness of Okhsl, relative to the white of sRGB, of a lightness of Oklab. Inverse of `toe_inv`.
 pub fn toe<N: Number>(lightness: N) -> N
-    ensures value { result ≡ toe_of ops lightness }
-    ensures meaning { means result ≡ toe_of arith (means lightness) }
+    ensures value { result ≡ toe_of N.ops lightness }
+    ensures meaning { N.means result ≡ toe_of N.arith (N.means lightness) }
 {
     let root = toe_square(lightness).sqrt();
     N::literal(Literal::Half)
@@ -45,8 +45,8 @@ pub fn toe<N: Number>(lightness: N) -> N
 
 /// The lightness of Oklab of a lightness of Okhsl. Inverse of `toe`.
 pub fn toe_inv<N: Number>(lightness: N) -> N
-    ensures value { result ≡ toe_inv ops lightness }
-    ensures meaning { means result ≡ toe_inv arith (means lightness) }
+    ensures value { result ≡ toe_inv N.ops lightness }
+    ensures meaning { N.means result ≡ toe_inv N.arith (N.means lightness) }
 {
     let k1 = N::literal(Literal::Toe1);
     let k2 = N::literal(Literal::Toe2);

@@ -18,7 +18,7 @@ pub struct Xyz<N> {
 
 // LMS to XYZ.
 fn m1_inv<N: Number>() -> Mat3<N>
-    ensures { result ≡ m1_inv ops }
+    ensures { result ≡ m1_inv N.ops }
 {
     Mat3 {
         first: Vec3 {
@@ -41,7 +41,7 @@ fn m1_inv<N: Number>() -> Mat3<N>
 
 // Oklab to the cube roots of LMS.
 fn m2_inv<N: Number>() -> Mat3<N>
-    ensures { result ≡ m2_inv ops }
+    ensures { result ≡ m2_inv N.ops }
 {
     Mat3 {
         first: Vec3 {
@@ -63,7 +63,7 @@ fn m2_inv<N: Number>() -> Mat3<N>
 }
 
 fn marked<N: Number>(v: Vec3<N>) -> Xyz<N>
-    ensures { result ≡ as_xyz ops v }
+    ensures { result ≡ as_xyz N.ops v }
 {
     Xyz {
         x: v.x.mark(Stage::Matrix),
@@ -74,8 +74,8 @@ fn marked<N: Number>(v: Vec3<N>) -> Xyz<N>
 
 /// The XYZ of a colour in Oklab.
 pub fn oklab_to_xyz<N: Number>(c: Oklab<N>) -> Xyz<N>
-    ensures value { result ≡ oklab_to_xyz ops c }
-    ensures meaning { map_xyz means result ≡ oklab_to_xyz arith (map_oklab means c) }
+    ensures value { result ≡ oklab_to_xyz N.ops c }
+    ensures meaning { map_xyz N.means result ≡ oklab_to_xyz N.arith (map_oklab N.means c) }
 {
     let lab = Vec3 {
         x: c.l,

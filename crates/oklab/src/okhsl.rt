@@ -26,7 +26,7 @@ pub struct Okhsl<N> {
 
 // Whether saturation and lightness are in 0..1 and no number is spoiled.
 pub(crate) fn okhsl_in_range<N: Number>(color: Okhsl<N>) -> bool
-    ensures { result ≡ okhsl_in_range ops traced color }
+    ensures { result ≡ okhsl_in_range N.ops N.traced color }
 {
     let hue = color.hue;
     !hue.a.is_spoiled()
@@ -36,7 +36,7 @@ pub(crate) fn okhsl_in_range<N: Number>(color: Okhsl<N>) -> bool
 }
 
 fn settled_okhsl<N: Number>(color: Okhsl<N>) -> Result<Okhsl<N>, NumberFault>
-    ensures { result ≡ settled_okhsl ops traced color }
+    ensures { result ≡ settled_okhsl N.ops N.traced color }
 {
     let hue = color.hue;
     unspoiled(hue.a)?;
@@ -48,7 +48,7 @@ fn settled_okhsl<N: Number>(color: Okhsl<N>) -> Result<Okhsl<N>, NumberFault>
 
 // A grey of Oklab's lightness l.
 pub(crate) fn grey<N: Number>(l: N) -> Oklab<N>
-    ensures { result ≡ grey_of ops traced l }
+    ensures { result ≡ grey_of N.ops N.traced l }
 {
     Oklab {
         l,
@@ -59,7 +59,7 @@ pub(crate) fn grey<N: Number>(l: N) -> Oklab<N>
 
 // The colour of Oklab's lightness l with the three numbers of a boundary.
 fn oklab_with<N: Number>(color: Okhsl<N>, l: N, values: ChromaValues<N>) -> Oklab<N>
-    ensures { result ≡ oklab_with ops traced color l values }
+    ensures { result ≡ oklab_with N.ops N.traced color l values }
 {
     let hue = color.hue;
     let chroma = chroma_of(values, color.saturation);
@@ -76,9 +76,9 @@ pub fn okhsl_to_oklab<N: Number, B: Boundary<N>>(
     color: Okhsl<N>,
     boundary: &mut B,
 ) -> Result<Oklab<N>, NumberFault>
-    ensures value { right boundary.old → Follows means (meaning boundary.old) (oklab_steps ops traced color) result }
-    ensures meaning { right boundary.old → meant (map_oklab means) result ≡ run (meaning boundary.old) (oklab_steps arith untold (map_okhsl means color)) }
-    ensures stays { Stays right meaning model boundary.old boundary.new }
+    ensures value { B.right boundary.old → Follows N.means (B.meaning boundary.old) (oklab_steps N.ops N.traced color) result }
+    ensures meaning { B.right boundary.old → meant (map_oklab N.means) result ≡ run (B.meaning boundary.old) (oklab_steps N.arith untold (map_okhsl N.means color)) }
+    ensures stays { Stays B.right B.meaning B.model boundary.old boundary.new }
 {
     if !okhsl_in_range(color) {
         return Err(NumberFault::Range);
@@ -100,7 +100,7 @@ pub fn okhsl_to_oklab<N: Number, B: Boundary<N>>(
 
 // A grey of Okhsl, at hue 0.
 fn okhsl_grey<N: Number>(color: Oklab<N>) -> Okhsl<N>
-    ensures { result ≡ okhsl_grey ops traced color }
+    ensures { result ≡ okhsl_grey N.ops N.traced color }
 {
     Okhsl {
         hue: Direction {
@@ -114,14 +114,14 @@ fn okhsl_grey<N: Number>(color: Oklab<N>) -> Okhsl<N>
 
 // Whether chroma or lightness is no valid divisor, or lightness is 1.
 fn is_grey<N: Number>(color: Oklab<N>, chroma: N) -> bool
-    ensures { result ≡ is_grey ops traced color chroma }
+    ensures { result ≡ is_grey N.ops N.traced color chroma }
 {
     !chroma.is_valid_divisor() || color.l.eq(N::whole(1)) || !color.l.is_valid_divisor()
 }
 
 // The colour of this chroma with the three numbers of a boundary.
 fn okhsl_with<N: Number>(color: Oklab<N>, chroma: N, values: ChromaValues<N>) -> Okhsl<N>
-    ensures { result ≡ okhsl_with ops traced color chroma values }
+    ensures { result ≡ okhsl_with N.ops N.traced color chroma values }
 {
     let lightness = toe(color.l);
     Okhsl {
@@ -140,9 +140,9 @@ pub fn oklab_to_okhsl<N: Number, B: Boundary<N>>(
     color: Oklab<N>,
     boundary: &mut B,
 ) -> Result<Okhsl<N>, NumberFault>
-    ensures value { right boundary.old → Follows means (meaning boundary.old) (okhsl_steps ops traced color) result }
-    ensures meaning { right boundary.old → meant (map_okhsl means) result ≡ run (meaning boundary.old) (okhsl_steps arith untold (map_oklab means color)) }
-    ensures stays { Stays right meaning model boundary.old boundary.new }
+    ensures value { B.right boundary.old → Follows N.means (B.meaning boundary.old) (okhsl_steps N.ops N.traced color) result }
+    ensures meaning { B.right boundary.old → meant (map_okhsl N.means) result ≡ run (B.meaning boundary.old) (okhsl_steps N.arith untold (map_oklab N.means color)) }
+    ensures stays { Stays B.right B.meaning B.model boundary.old boundary.new }
 {
     if !oklab_in_range(color) {
         return Err(NumberFault::Range);

@@ -26,7 +26,7 @@ pub struct Okhsv<N> {
 
 // A colour of Okhsv, refused where one of its numbers is spoiled.
 pub(crate) fn settled_okhsv<N: Number>(color: Okhsv<N>) -> Result<Okhsv<N>, NumberFault>
-    ensures { result ≡ settled_okhsv ops traced color }
+    ensures { result ≡ settled_okhsv N.ops N.traced color }
 {
     let hue = color.hue;
     unspoiled(hue.a)?;
@@ -38,7 +38,7 @@ pub(crate) fn settled_okhsv<N: Number>(color: Okhsv<N>) -> Result<Okhsv<N>, Numb
 
 // Whether saturation and value are in 0..1 and no number is spoiled.
 pub(crate) fn okhsv_in_range<N: Number>(color: Okhsv<N>) -> bool
-    ensures { result ≡ okhsv_in_range ops traced color }
+    ensures { result ≡ okhsv_in_range N.ops N.traced color }
 {
     let hue = color.hue;
     !hue.a.is_spoiled()
@@ -48,7 +48,7 @@ pub(crate) fn okhsv_in_range<N: Number>(color: Okhsv<N>) -> bool
 }
 
 fn okhwb_in_range<N: Number>(color: Okhwb<N>) -> bool
-    ensures { result ≡ okhwb_in_range ops traced color }
+    ensures { result ≡ okhwb_in_range N.ops N.traced color }
 {
     let hue = color.hue;
     !hue.a.is_spoiled()
@@ -59,7 +59,7 @@ fn okhwb_in_range<N: Number>(color: Okhwb<N>) -> bool
 }
 
 fn okhsv_with<N: Number>(color: Okhwb<N>, value: N) -> Okhsv<N>
-    ensures { result ≡ okhsv_with ops traced color value }
+    ensures { result ≡ okhsv_with N.ops N.traced color value }
 {
     let saturation = if value.is_valid_divisor() {
         N::whole(1).sub(color.whiteness.div(value))
@@ -76,8 +76,8 @@ fn okhsv_with<N: Number>(color: Okhwb<N>, value: N) -> Okhsv<N>
 /// Converts Okhwb to Okhsv. It is refused where a number is out of range or spoiled, whiteness and blackness sum to more
 /// than 1, the direction is not accepted, or a number of the answer is spoiled, in this order.
 pub fn okhwb_to_okhsv<N: Number>(color: Okhwb<N>) -> Result<Okhsv<N>, NumberFault>
-    ensures value { result ≡ okhsv_of_okhwb ops traced color }
-    ensures meaning { meant (map_okhsv means) result ≡ okhsv_of_okhwb arith untold (map_okhwb means color) }
+    ensures value { result ≡ okhsv_of_okhwb N.ops N.traced color }
+    ensures meaning { meant (map_okhsv N.means) result ≡ okhsv_of_okhwb N.arith untold (map_okhwb N.means color) }
 {
     if !okhwb_in_range(color) {
         return Err(NumberFault::Range);
@@ -91,20 +91,20 @@ pub fn okhwb_to_okhsv<N: Number>(color: Okhwb<N>) -> Result<Okhsv<N>, NumberFaul
 
 // 1 − 0.5 ÷ S
 fn bend<N: Number>(triangle: ST<N>) -> N
-    ensures { result ≡ bend_of ops triangle }
+    ensures { result ≡ bend_of N.ops triangle }
 {
     N::whole(1).sub(N::literal(Literal::Half).div(triangle.s))
 }
 
 fn brightest<N: Number>(c: LinSrgb<N>) -> N
-    ensures { result ≡ brightest_of ops c }
+    ensures { result ≡ brightest_of N.ops c }
 {
     c.red.max(c.green).max(c.blue.max(N::whole(0)))
 }
 
 // A lightness l and a chroma c with the toe undone, which takes l to m.
 fn untoed<N: Number>(hue: Direction<N>, l: N, c: N, m: N) -> Oklab<N>
-    ensures { result ≡ untoed_of ops hue l c m }
+    ensures { result ≡ untoed_of N.ops hue l c m }
 {
     let chroma = c.mul(m).div(l);
     Oklab {
@@ -116,14 +116,14 @@ fn untoed<N: Number>(hue: Direction<N>, l: N, c: N, m: N) -> Oklab<N>
 
 // What takes a colour on the triangle's upper side to the curved one, where a channel of sRGB is 1.
 fn scale_factor<N: Number>(hue: Direction<N>, l: N, c: N) -> N
-    ensures { result ≡ scale_factor ops hue l c }
+    ensures { result ≡ scale_factor N.ops hue l c }
 {
     let rgb = oklab_to_linear_srgb(untoed(hue, l, c, toe_inv(l)));
     N::whole(1).div(brightest(rgb)).cbrt()
 }
 
 fn side_divisor<N: Number>(triangle: ST<N>, s: N) -> N
-    ensures { result ≡ side_divisor ops triangle s }
+    ensures { result ≡ side_divisor N.ops triangle s }
 {
     N::literal(Literal::Half)
         .add(triangle.t)
@@ -131,7 +131,7 @@ fn side_divisor<N: Number>(triangle: ST<N>, s: N) -> N
 }
 
 fn side_lightness<N: Number>(triangle: ST<N>, s: N) -> N
-    ensures { result ≡ side_lightness ops triangle s }
+    ensures { result ≡ side_lightness N.ops triangle s }
 {
     N::whole(1).sub(
         s.mul(N::literal(Literal::Half))
@@ -140,7 +140,7 @@ fn side_lightness<N: Number>(triangle: ST<N>, s: N) -> N
 }
 
 fn side_chroma<N: Number>(triangle: ST<N>, s: N) -> N
-    ensures { result ≡ side_chroma ops triangle s }
+    ensures { result ≡ side_chroma N.ops triangle s }
 {
     s.mul(triangle.t)
         .mul(N::literal(Literal::Half))
@@ -149,7 +149,7 @@ fn side_chroma<N: Number>(triangle: ST<N>, s: N) -> N
 
 // The colour of a lightness l and a chroma c on the triangle, with the toe undone, scaled by a factor.
 fn scaled<N: Number>(hue: Direction<N>, l: N, c: N, m: N, factor: N) -> Oklab<N>
-    ensures { result ≡ scaled_by ops hue l c m factor }
+    ensures { result ≡ scaled_by N.ops hue l c m factor }
 {
     let chroma = c.mul(m).div(l).mul(factor);
     Oklab {
@@ -160,7 +160,7 @@ fn scaled<N: Number>(hue: Direction<N>, l: N, c: N, m: N, factor: N) -> Oklab<N>
 }
 
 fn oklab_on_triangle<N: Number>(color: Okhsv<N>, triangle: ST<N>) -> Oklab<N>
-    ensures { result ≡ oklab_on_triangle ops color triangle }
+    ensures { result ≡ oklab_on_triangle N.ops color triangle }
 {
     let l = side_lightness(triangle, color.saturation);
     let c = side_chroma(triangle, color.saturation);
@@ -175,14 +175,14 @@ fn oklab_on_triangle<N: Number>(color: Okhsv<N>, triangle: ST<N>) -> Oklab<N>
 }
 
 fn triangle_of<N: Number>(hue: Direction<N>) -> ST<N>
-    ensures { result ≡ triangle_of ops hue }
+    ensures { result ≡ triangle_of N.ops hue }
 {
     ST::from_cusp(LC::find_cusp(hue))
 }
 
 // Black, then greys, then colours.
 fn oklab_of_saturation<N: Number>(color: Okhsv<N>) -> Oklab<N>
-    ensures { result ≡ oklab_of_saturation ops traced color }
+    ensures { result ≡ oklab_of_saturation N.ops N.traced color }
 {
     if color.value.eq(N::whole(0)) {
         grey(N::whole(0))
@@ -196,8 +196,8 @@ fn oklab_of_saturation<N: Number>(color: Okhsv<N>) -> Oklab<N>
 /// Converts Okhsv to Oklab. It is refused where a number is out of range or spoiled, the direction is not accepted, or a
 /// number of the answer is spoiled, in this order.
 pub fn okhsv_to_oklab<N: Number>(color: Okhsv<N>) -> Result<Oklab<N>, NumberFault>
-    ensures value { result ≡ oklab_of_okhsv ops traced color }
-    ensures meaning { meant (map_oklab means) result ≡ oklab_of_okhsv arith untold (map_okhsv means color) }
+    ensures value { result ≡ oklab_of_okhsv N.ops N.traced color }
+    ensures meaning { meant (map_oklab N.means) result ≡ oklab_of_okhsv N.arith untold (map_okhsv N.means color) }
 {
     if !okhsv_in_range(color) {
         return Err(NumberFault::Range);
@@ -211,7 +211,7 @@ pub fn okhsv_to_oklab<N: Number>(color: Okhsv<N>) -> Result<Oklab<N>, NumberFaul
 
 // What takes a colour to the upper side of the triangle.
 fn to_side<N: Number>(color: Oklab<N>, chroma: N, triangle: ST<N>) -> N
-    ensures { result ≡ to_side ops color chroma triangle }
+    ensures { result ≡ to_side N.ops color chroma triangle }
 {
     triangle.t.div(chroma.add(color.l.mul(triangle.t)))
 }
@@ -223,7 +223,7 @@ fn okhsv_on_triangle<N: Number>(
     triangle: ST<N>,
     t: N,
 ) -> Okhsv<N>
-    ensures { result ≡ okhsv_on_triangle ops color chroma hue triangle t }
+    ensures { result ≡ okhsv_on_triangle N.ops color chroma hue triangle t }
 {
     let half = N::literal(Literal::Half);
     let l = t.mul(color.l);
@@ -241,7 +241,7 @@ fn okhsv_on_triangle<N: Number>(
 
 // A grey of a value, at hue 0.
 fn okhsv_grey<N: Number>(value: N) -> Okhsv<N>
-    ensures { result ≡ okhsv_grey ops value }
+    ensures { result ≡ okhsv_grey N.ops value }
 {
     Okhsv {
         hue: Direction {
@@ -255,7 +255,7 @@ fn okhsv_grey<N: Number>(value: N) -> Okhsv<N>
 
 // Black, then colours, then greys.
 fn okhsv_with_chroma<N: Number>(color: Oklab<N>, chroma: N) -> Okhsv<N>
-    ensures { result ≡ okhsv_with_chroma ops color chroma }
+    ensures { result ≡ okhsv_with_chroma N.ops color chroma }
 {
     if color.l.eq(N::whole(0)) {
         okhsv_grey(N::whole(0))
@@ -280,8 +280,8 @@ fn okhsv_with_chroma<N: Number>(color: Oklab<N>, chroma: N) -> Okhsv<N>
 /// Converts Oklab to Okhsv. It is refused where a number is out of range or spoiled, or the chroma or a number of the
 /// answer is spoiled, in this order.
 pub fn oklab_to_okhsv<N: Number>(color: Oklab<N>) -> Result<Okhsv<N>, NumberFault>
-    ensures value { result ≡ okhsv_of_oklab ops traced color }
-    ensures meaning { meant (map_okhsv means) result ≡ okhsv_of_oklab arith untold (map_oklab means color) }
+    ensures value { result ≡ okhsv_of_oklab N.ops N.traced color }
+    ensures meaning { meant (map_okhsv N.means) result ≡ okhsv_of_oklab N.arith untold (map_oklab N.means color) }
 {
     if !oklab_in_range(color) {
         return Err(NumberFault::Range);

@@ -18,7 +18,7 @@ pub struct Okhwb<N> {
 }
 
 fn settled_okhwb<N: Number>(color: Okhwb<N>) -> Result<Okhwb<N>, NumberFault>
-    ensures { result ≡ settled_okhwb ops traced color }
+    ensures { result ≡ settled_okhwb N.ops N.traced color }
 {
     let hue = color.hue;
     unspoiled(hue.a)?;
@@ -29,7 +29,7 @@ fn settled_okhwb<N: Number>(color: Okhwb<N>) -> Result<Okhwb<N>, NumberFault>
 }
 
 fn okhwb_with<N: Number>(color: Okhsv<N>) -> Okhwb<N>
-    ensures { result ≡ okhwb_with ops traced color }
+    ensures { result ≡ okhwb_with N.ops N.traced color }
 {
     let one = N::whole(1);
     Okhwb {
@@ -42,8 +42,8 @@ fn okhwb_with<N: Number>(color: Okhsv<N>) -> Okhwb<N>
 /// Converts Okhsv to Okhwb. It is refused where a number is out of range or spoiled, the direction is not accepted, or a
 /// number of the answer is spoiled, in this order.
 pub fn okhsv_to_okhwb<N: Number>(color: Okhsv<N>) -> Result<Okhwb<N>, NumberFault>
-    ensures value { result ≡ okhwb_of_okhsv ops traced color }
-    ensures meaning { meant (map_okhwb means) result ≡ okhwb_of_okhsv arith untold (map_okhsv means color) }
+    ensures value { result ≡ okhwb_of_okhsv N.ops N.traced color }
+    ensures meaning { meant (map_okhwb N.means) result ≡ okhwb_of_okhsv N.arith untold (map_okhsv N.means color) }
 {
     if !okhsv_in_range(color) {
         return Err(NumberFault::Range);

@@ -19,7 +19,7 @@ pub struct Oklch<N> {
 }
 
 fn settled_oklch<N: Number>(color: Oklch<N>) -> Result<Oklch<N>, NumberFault>
-    ensures { result ≡ settled_oklch ops traced color }
+    ensures { result ≡ settled_oklch N.ops N.traced color }
 {
     let hue = color.hue;
     unspoiled(color.l)?;
@@ -31,7 +31,7 @@ fn settled_oklch<N: Number>(color: Oklch<N>) -> Result<Oklch<N>, NumberFault>
 
 // The direction of a colour of this chroma, or hue 0 when the chroma is 0.
 fn hue_of<N: Number>(color: Oklab<N>, chroma: N) -> Direction<N>
-    ensures { result ≡ hue_of ops traced color chroma }
+    ensures { result ≡ hue_of N.ops N.traced color chroma }
 {
     if chroma.eq(N::whole(0)) {
         Direction {
@@ -49,8 +49,8 @@ fn hue_of<N: Number>(color: Oklab<N>, chroma: N) -> Direction<N>
 /// Converts Oklab to Oklch. It is refused where a number is out of range or spoiled, or the chroma or another number of
 /// the answer is spoiled, in this order.
 pub fn oklab_to_oklch<N: Number>(color: Oklab<N>) -> Result<Oklch<N>, NumberFault>
-    ensures value { result ≡ oklch_of_oklab ops traced color }
-    ensures meaning { meant (map_oklch means) result ≡ oklch_of_oklab arith untold (map_oklab means color) }
+    ensures value { result ≡ oklch_of_oklab N.ops N.traced color }
+    ensures meaning { meant (map_oklch N.means) result ≡ oklch_of_oklab N.arith untold (map_oklab N.means color) }
 {
     if !oklab_in_range(color) {
         return Err(NumberFault::Range);
@@ -65,7 +65,7 @@ pub fn oklab_to_oklch<N: Number>(color: Oklab<N>) -> Result<Oklch<N>, NumberFaul
 }
 
 fn oklch_in_range<N: Number>(color: Oklch<N>) -> bool
-    ensures { result ≡ oklch_in_range ops traced color }
+    ensures { result ≡ oklch_in_range N.ops N.traced color }
 {
     let hue = color.hue;
     is_in_unit(color.l) && !color.chroma.is_spoiled() && !hue.a.is_spoiled() && !hue.b.is_spoiled()
@@ -74,8 +74,8 @@ fn oklch_in_range<N: Number>(color: Oklch<N>) -> bool
 /// Converts Oklch to Oklab; a chroma below 0 counts as 0. It is refused where a number is out of range or spoiled, the
 /// direction is not accepted, or a number of the answer is spoiled, in this order.
 pub fn oklch_to_oklab<N: Number>(color: Oklch<N>) -> Result<Oklab<N>, NumberFault>
-    ensures value { result ≡ oklab_of_oklch ops traced color }
-    ensures meaning { meant (map_oklab means) result ≡ oklab_of_oklch arith untold (map_oklch means color) }
+    ensures value { result ≡ oklab_of_oklch N.ops N.traced color }
+    ensures meaning { meant (map_oklab N.means) result ≡ oklab_of_oklch N.arith untold (map_oklch N.means color) }
 {
     if !oklch_in_range(color) {
         return Err(NumberFault::Range);

@@ -13,7 +13,7 @@ use gamut::{oklab, xyz};
 use number::Number;
 
 fn settled_rgb<N: Number>(color: LinSrgb<N>) -> Result<LinSrgb<N>, NumberFault>
-    ensures { result ≡ settled_rgb ops traced color }
+    ensures { result ≡ settled_rgb N.ops N.traced color }
 {
     unspoiled(color.red)?;
     unspoiled(color.green)?;
@@ -22,7 +22,7 @@ fn settled_rgb<N: Number>(color: LinSrgb<N>) -> Result<LinSrgb<N>, NumberFault>
 }
 
 fn settled_xyz<N: Number>(color: Xyz<N>) -> Result<Xyz<N>, NumberFault>
-    ensures { result ≡ settled_xyz ops traced color }
+    ensures { result ≡ settled_xyz N.ops N.traced color }
 {
     unspoiled(color.x)?;
     unspoiled(color.y)?;
@@ -31,7 +31,7 @@ fn settled_xyz<N: Number>(color: Xyz<N>) -> Result<Xyz<N>, NumberFault>
 }
 
 fn none_spoiled<N: Number>(x: N, y: N, z: N) -> bool
-    ensures { result ≡ none_spoiled ops traced x y z }
+    ensures { result ≡ none_spoiled N.ops N.traced x y z }
 {
     !x.is_spoiled() && !y.is_spoiled() && !z.is_spoiled()
 }
@@ -39,8 +39,8 @@ fn none_spoiled<N: Number>(x: N, y: N, z: N) -> bool
 /// Converts Oklab to linear sRGB. It is refused where a number is out of range or spoiled, or a number of the answer is
 /// spoiled, in this order.
 pub fn oklab_to_linear_srgb<N: Number>(color: Oklab<N>) -> Result<LinSrgb<N>, NumberFault>
-    ensures value { result ≡ linear_srgb_of_oklab ops traced color }
-    ensures meaning { meant (map_rgb means) result ≡ linear_srgb_of_oklab arith untold (map_oklab means color) }
+    ensures value { result ≡ linear_srgb_of_oklab N.ops N.traced color }
+    ensures meaning { meant (map_rgb N.means) result ≡ linear_srgb_of_oklab N.arith untold (map_oklab N.means color) }
 {
     if !oklab_in_range(color) {
         return Err(NumberFault::Range);
@@ -50,8 +50,8 @@ pub fn oklab_to_linear_srgb<N: Number>(color: Oklab<N>) -> Result<LinSrgb<N>, Nu
 
 /// Converts linear sRGB to Oklab. It is refused where a number is spoiled, or a number of the answer is, in this order.
 pub fn linear_srgb_to_oklab<N: Number>(color: LinSrgb<N>) -> Result<Oklab<N>, NumberFault>
-    ensures value { result ≡ oklab_of_linear_srgb ops traced color }
-    ensures meaning { meant (map_oklab means) result ≡ oklab_of_linear_srgb arith untold (map_rgb means color) }
+    ensures value { result ≡ oklab_of_linear_srgb N.ops N.traced color }
+    ensures meaning { meant (map_oklab N.means) result ≡ oklab_of_linear_srgb N.arith untold (map_rgb N.means color) }
 {
     if !none_spoiled(color.red, color.green, color.blue) {
         return Err(NumberFault::Range);
@@ -62,8 +62,8 @@ pub fn linear_srgb_to_oklab<N: Number>(color: LinSrgb<N>) -> Result<Oklab<N>, Nu
 /// Converts Oklab to XYZ. It is refused where a number is out of range or spoiled, or a number of the answer is spoiled,
 /// in this order.
 pub fn oklab_to_xyz<N: Number>(color: Oklab<N>) -> Result<Xyz<N>, NumberFault>
-    ensures value { result ≡ xyz_of_oklab ops traced color }
-    ensures meaning { meant (map_xyz means) result ≡ xyz_of_oklab arith untold (map_oklab means color) }
+    ensures value { result ≡ xyz_of_oklab N.ops N.traced color }
+    ensures meaning { meant (map_xyz N.means) result ≡ xyz_of_oklab N.arith untold (map_oklab N.means color) }
 {
     if !oklab_in_range(color) {
         return Err(NumberFault::Range);
@@ -73,8 +73,8 @@ pub fn oklab_to_xyz<N: Number>(color: Oklab<N>) -> Result<Xyz<N>, NumberFault>
 
 /// Converts XYZ to Oklab. It is refused where a number is spoiled, or a number of the answer is, in this order.
 pub fn xyz_to_oklab<N: Number>(color: Xyz<N>) -> Result<Oklab<N>, NumberFault>
-    ensures value { result ≡ oklab_of_xyz ops traced color }
-    ensures meaning { meant (map_oklab means) result ≡ oklab_of_xyz arith untold (map_xyz means color) }
+    ensures value { result ≡ oklab_of_xyz N.ops N.traced color }
+    ensures meaning { meant (map_oklab N.means) result ≡ oklab_of_xyz N.arith untold (map_xyz N.means color) }
 {
     if !none_spoiled(color.x, color.y, color.z) {
         return Err(NumberFault::Range);

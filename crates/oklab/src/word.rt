@@ -34,7 +34,7 @@ impl Word {
 
 // The word by the threshold alone.
 fn word_within<N: Number>(color: Okhsl<N>, threshold: N) -> Word
-    ensures { result ≡ word_within ops traced color threshold }
+    ensures { result ≡ word_within N.ops N.traced color threshold }
 {
     if color.saturation.le(threshold) {
         Word::Grey
@@ -51,8 +51,8 @@ fn word_within<N: Number>(color: Okhsl<N>, threshold: N) -> Word
 /// to 1 or 0, else coloured. It is refused where a number is out of range or spoiled, the threshold too, or the direction
 /// is not accepted, in this order.
 pub fn okhsl_word<N: Number>(color: Okhsl<N>, threshold: N) -> Result<Word, NumberFault>
-    ensures value { result ≡ word_of ops traced color threshold }
-    ensures meaning { result ≡ word_of arith untold (map_okhsl means color) (means threshold) }
+    ensures value { result ≡ word_of N.ops N.traced color threshold }
+    ensures meaning { result ≡ word_of N.arith untold (map_okhsl N.means color) (N.means threshold) }
 {
     if !(okhsl_in_range(color) && is_in_unit(threshold)) {
         return Err(NumberFault::Range);

@@ -12,20 +12,20 @@ use number::{Literal, Number, Stage};
 
 // How far the curved side of the gamut stands out over the triangle.
 fn scale<N: Number>(max: N, c: Sides<N>) -> N
-    ensures { result ≡ scale_of ops max c }
+    ensures { result ≡ scale_of N.ops max c }
 {
     max.div(c.lower.min(c.upper))
 }
 
 fn mid_chroma<N: Number>(k: N, c: Sides<N>) -> N
-    ensures { result ≡ mid_chroma ops k c }
+    ensures { result ≡ mid_chroma N.ops k c }
 {
     N::literal(Literal::NineTenths).mul(k).mul(c.soft_min4())
 }
 
 // The same for every hue: the triangle is an average one.
 fn zero_chroma<N: Number>(lightness: N) -> N
-    ensures { result ≡ zero_chroma ops lightness }
+    ensures { result ≡ zero_chroma N.ops lightness }
 {
     let average = ST {
         s: N::literal(Literal::TwoFifths),
@@ -35,7 +35,7 @@ fn zero_chroma<N: Number>(lightness: N) -> N
 }
 
 fn level<N: Number>(lightness: N) -> Line<N>
-    ensures { result ≡ level_of ops lightness }
+    ensures { result ≡ level_of N.ops lightness }
 {
     Line {
         l1: lightness,
@@ -45,7 +45,7 @@ fn level<N: Number>(lightness: N) -> Line<N>
 }
 
 fn values_at<N: Number>(lightness: N, h: Direction<N>, cusp: LC<N>, max: N) -> ChromaValues<N>
-    ensures { result ≡ values_at ops lightness h cusp max }
+    ensures { result ≡ values_at N.ops lightness h cusp max }
 {
     let k = scale(max, ST::from_cusp(cusp).sides(lightness));
     let mid = mid_chroma(k, ST::mid(h).sides(lightness));
@@ -58,8 +58,8 @@ fn values_at<N: Number>(lightness: N, h: Direction<N>, cusp: LC<N>, max: N) -> C
 
 /// The chroma values of a lightness and a hue in sRGB.
 pub fn from_normalized<N: Number>(lightness: N, h: Direction<N>) -> ChromaValues<N>
-    ensures value { result ≡ chroma_values ops lightness h }
-    ensures meaning { map_values means result ≡ chroma_values arith (means lightness) (map_direction means h) }
+    ensures value { result ≡ chroma_values N.ops lightness h }
+    ensures meaning { map_values N.means result ≡ chroma_values N.arith (N.means lightness) (map_direction N.means h) }
 {
     let cusp = LC::find_cusp(h);
     let max = find_gamut_intersection(h, level(lightness), cusp);

@@ -16,7 +16,7 @@ pub struct LC<N> {
 }
 
 fn at_saturation<N: Number>(s: N, h: Direction<N>) -> Oklab<N>
-    ensures { result ≡ at_saturation ops s h }
+    ensures { result ≡ at_saturation N.ops s h }
 {
     Oklab {
         l: N::whole(1),
@@ -26,13 +26,13 @@ fn at_saturation<N: Number>(s: N, h: Direction<N>) -> Oklab<N>
 }
 
 fn largest<N: Number>(c: LinSrgb<N>) -> N
-    ensures { result ≡ largest_of ops c }
+    ensures { result ≡ largest_of N.ops c }
 {
     c.red.max(c.green).max(c.blue)
 }
 
 fn cusp_at<N: Number>(s: N, c: LinSrgb<N>) -> LC<N>
-    ensures { result ≡ cusp_at ops s c }
+    ensures { result ≡ cusp_at N.ops s c }
 {
     let lightness = N::whole(1).div(largest(c)).cbrt();
     LC {
@@ -44,7 +44,7 @@ fn cusp_at<N: Number>(s: N, c: LinSrgb<N>) -> LC<N>
 impl<N: Number> LC<N> {
     /// The cusp of a hue.
     pub fn find_cusp(h: Direction<N>) -> LC<N>
-        ensures { result ≡ cusp ops h }
+        ensures { result ≡ cusp N.ops h }
     {
         let s = max_saturation(h);
         cusp_at(s, oklab_to_linear_srgb(at_saturation(s, h)))

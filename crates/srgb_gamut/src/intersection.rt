@@ -18,7 +18,7 @@ pub struct Line<N> {
 
 // Whether the line meets the lower side of the triangle, below the cusp.
 fn is_lower<N: Number>(x: Line<N>, c: LC<N>) -> bool
-    ensures { result ≡ is_lower ops x c }
+    ensures { result ≡ is_lower N.ops x c }
 {
     x.l1.sub(x.l0)
         .mul(c.chroma)
@@ -28,7 +28,7 @@ fn is_lower<N: Number>(x: Line<N>, c: LC<N>) -> bool
 
 // Where it meets that side, which is straight in sRGB too.
 fn lower<N: Number>(x: Line<N>, c: LC<N>) -> N
-    ensures { result ≡ lower_of ops x c }
+    ensures { result ≡ lower_of N.ops x c }
 {
     c.chroma
         .mul(x.l0)
@@ -37,7 +37,7 @@ fn lower<N: Number>(x: Line<N>, c: LC<N>) -> N
 
 // Where it meets the upper side of the triangle.
 fn triangle<N: Number>(x: Line<N>, c: LC<N>) -> N
-    ensures { result ≡ triangle_of ops x c }
+    ensures { result ≡ triangle_of N.ops x c }
 {
     let one = N::whole(1);
     let below = x
@@ -49,7 +49,7 @@ fn triangle<N: Number>(x: Line<N>, c: LC<N>) -> N
 
 // How fast the cube roots of LMS change with the chroma.
 fn slopes<N: Number>(h: Direction<N>) -> Lms<N>
-    ensures { result ≡ slopes_along ops h }
+    ensures { result ≡ slopes_along N.ops h }
 {
     let l = N::literal(Literal::LongA)
         .mul(h.a)
@@ -67,7 +67,7 @@ fn slopes<N: Number>(h: Direction<N>) -> Lms<N>
 
 // x + y k at each of the slopes k.
 fn along<N: Number>(x: N, y: N, k: Lms<N>) -> Lms<N>
-    ensures { result ≡ along_of ops x y k }
+    ensures { result ≡ along_of N.ops x y k }
 {
     Lms {
         l: x.add(y.mul(k.l)),
@@ -78,7 +78,7 @@ fn along<N: Number>(x: N, y: N, k: Lms<N>) -> Lms<N>
 
 // The cube roots of LMS at t.
 fn roots_at<N: Number>(t: N, x: Line<N>, k: Lms<N>) -> Lms<N>
-    ensures { result ≡ roots_at ops t x k }
+    ensures { result ≡ roots_at N.ops t x k }
 {
     let lightness = x.l0.mul(N::whole(1).sub(t)).add(t.mul(x.l1));
     let chroma = t.mul(x.c1);
@@ -87,7 +87,7 @@ fn roots_at<N: Number>(t: N, x: Line<N>, k: Lms<N>) -> Lms<N>
 
 // The cube of x, which grows by d, with its derivatives.
 fn cube_along<N: Number>(x: N, d: N) -> Jet<N>
-    ensures { result ≡ cube_along ops x d }
+    ensures { result ≡ cube_along N.ops x d }
 {
     Jet {
         value: cube(x),
@@ -98,7 +98,7 @@ fn cube_along<N: Number>(x: N, d: N) -> Jet<N>
 
 // Each channel as a sum over LMS.
 fn red_sum<N: Number>(l: N, m: N, s: N) -> N
-    ensures { result ≡ red_sum ops l m s }
+    ensures { result ≡ red_sum N.ops l m s }
 {
     let x = N::literal(Literal::RedL)
         .mul(l)
@@ -107,7 +107,7 @@ fn red_sum<N: Number>(l: N, m: N, s: N) -> N
 }
 
 fn green_sum<N: Number>(l: N, m: N, s: N) -> N
-    ensures { result ≡ green_sum ops l m s }
+    ensures { result ≡ green_sum N.ops l m s }
 {
     let x = N::literal(Literal::GreenL)
         .neg()
@@ -117,7 +117,7 @@ fn green_sum<N: Number>(l: N, m: N, s: N) -> N
 }
 
 fn blue_sum<N: Number>(l: N, m: N, s: N) -> N
-    ensures { result ≡ blue_sum ops l m s }
+    ensures { result ≡ blue_sum N.ops l m s }
 {
     let x = N::literal(Literal::BlueL)
         .neg()
@@ -128,7 +128,7 @@ fn blue_sum<N: Number>(l: N, m: N, s: N) -> N
 
 // How far each channel is from 1, with its derivatives.
 fn red<N: Number>(l: Jet<N>, m: Jet<N>, s: Jet<N>) -> Jet<N>
-    ensures { result ≡ channel ops (red_sum ops) l m s }
+    ensures { result ≡ channel N.ops (red_sum N.ops) l m s }
 {
     Jet {
         value: red_sum(l.value, m.value, s.value).sub(N::whole(1)),
@@ -138,7 +138,7 @@ fn red<N: Number>(l: Jet<N>, m: Jet<N>, s: Jet<N>) -> Jet<N>
 }
 
 fn green<N: Number>(l: Jet<N>, m: Jet<N>, s: Jet<N>) -> Jet<N>
-    ensures { result ≡ channel ops (green_sum ops) l m s }
+    ensures { result ≡ channel N.ops (green_sum N.ops) l m s }
 {
     Jet {
         value: green_sum(l.value, m.value, s.value).sub(N::whole(1)),
@@ -148,7 +148,7 @@ fn green<N: Number>(l: Jet<N>, m: Jet<N>, s: Jet<N>) -> Jet<N>
 }
 
 fn blue<N: Number>(l: Jet<N>, m: Jet<N>, s: Jet<N>) -> Jet<N>
-    ensures { result ≡ channel ops (blue_sum ops) l m s }
+    ensures { result ≡ channel N.ops (blue_sum N.ops) l m s }
 {
     Jet {
         value: blue_sum(l.value, m.value, s.value).sub(N::whole(1)),
@@ -159,7 +159,7 @@ fn blue<N: Number>(l: Jet<N>, m: Jet<N>, s: Jet<N>) -> Jet<N>
 
 // A channel that falls along the line never reaches 1: it does not count.
 fn stride_by<N: Number>(u: N, value: N) -> N
-    ensures { result ≡ stride_by ops u value }
+    ensures { result ≡ stride_by N.ops u value }
 {
     if N::whole(0).le(u) {
         value.neg().mul(u)
@@ -170,7 +170,7 @@ fn stride_by<N: Number>(u: N, value: N) -> N
 
 // One step of Halley's method to where a channel is 1.
 fn stride<N: Number>(j: Jet<N>) -> N
-    ensures { result ≡ stride_of ops j }
+    ensures { result ≡ stride_of N.ops j }
 {
     let below = square(j.first).sub(N::literal(Literal::Half).mul(j.value).mul(j.second));
     stride_by(j.first.div(below), j.value)
@@ -178,14 +178,14 @@ fn stride<N: Number>(j: Jet<N>) -> N
 
 // The step of the channel that is 1 first.
 fn shortest<N: Number>(l: Jet<N>, m: Jet<N>, s: Jet<N>) -> N
-    ensures { result ≡ shortest_of ops l m s }
+    ensures { result ≡ shortest_of N.ops l m s }
 {
     stride(red(l, m, s)).min(stride(green(l, m, s)).min(stride(blue(l, m, s))))
 }
 
 // x: the cube roots of LMS, which grow by d.
 fn step<N: Number>(x: Lms<N>, d: Lms<N>) -> N
-    ensures { result ≡ step_of ops x d }
+    ensures { result ≡ step_of N.ops x d }
 {
     shortest(
         cube_along(x.l, d.l),
@@ -196,7 +196,7 @@ fn step<N: Number>(x: Lms<N>, d: Lms<N>) -> N
 
 // From t, where the line meets the triangle, to the curved upper side of sRGB.
 fn upper<N: Number>(t: N, k: Lms<N>, x: Line<N>) -> N
-    ensures { result ≡ upper_of ops t k x }
+    ensures { result ≡ upper_of N.ops t k x }
 {
     let d = along(x.l1.sub(x.l0), x.c1, k);
     t.add(step(roots_at(t, x, k), d))
@@ -204,7 +204,7 @@ fn upper<N: Number>(t: N, k: Lms<N>, x: Line<N>) -> N
 
 // The t at which a line in the plane of a hue leaves sRGB.
 pub(crate) fn find_gamut_intersection<N: Number>(h: Direction<N>, x: Line<N>, c: LC<N>) -> N
-    ensures { result ≡ intersection ops h x c }
+    ensures { result ≡ intersection N.ops h x c }
 {
     let t = if is_lower(x, c) {
         lower(x, c)

@@ -26,7 +26,7 @@ pub struct Jet<N> {
 }
 
 fn red_first<N: Number>(h: Direction<N>) -> bool
-    ensures { result ≡ red_first ops h }
+    ensures { result ≡ red_first N.ops h }
 {
     let x = N::literal(Literal::RedTestA)
         .mul(h.a)
@@ -35,7 +35,7 @@ fn red_first<N: Number>(h: Direction<N>) -> bool
 }
 
 fn green_first<N: Number>(h: Direction<N>) -> bool
-    ensures { result ≡ green_first ops h }
+    ensures { result ≡ green_first N.ops h }
 {
     let x = N::literal(Literal::GreenTestA)
         .mul(h.a)
@@ -44,7 +44,7 @@ fn green_first<N: Number>(h: Direction<N>) -> bool
 }
 
 fn red_fit<N: Number>() -> Fit<N>
-    ensures { result ≡ red_fit ops }
+    ensures { result ≡ red_fit N.ops }
 {
     Fit {
         k0: N::literal(Literal::Red0),
@@ -61,7 +61,7 @@ fn red_fit<N: Number>() -> Fit<N>
 }
 
 fn green_fit<N: Number>() -> Fit<N>
-    ensures { result ≡ green_fit ops }
+    ensures { result ≡ green_fit N.ops }
 {
     Fit {
         k0: N::literal(Literal::Green0),
@@ -78,7 +78,7 @@ fn green_fit<N: Number>() -> Fit<N>
 }
 
 fn blue_fit<N: Number>() -> Fit<N>
-    ensures { result ≡ blue_fit ops }
+    ensures { result ≡ blue_fit N.ops }
 {
     Fit {
         k0: N::literal(Literal::Blue0),
@@ -96,7 +96,7 @@ fn blue_fit<N: Number>() -> Fit<N>
 
 // The coefficients of the channel that falls to 0 first.
 fn fitted<N: Number>(h: Direction<N>) -> Fit<N>
-    ensures { result ≡ fit_of ops h }
+    ensures { result ≡ fit_of N.ops h }
 {
     if red_first(h) {
         red_fit()
@@ -108,7 +108,7 @@ fn fitted<N: Number>(h: Direction<N>) -> Fit<N>
 }
 
 fn polynomial<N: Number>(k: Fit<N>, h: Direction<N>) -> N
-    ensures { result ≡ polynomial_of ops k h }
+    ensures { result ≡ polynomial_of N.ops k h }
 {
     k.k0.add(k.k1.mul(h.a))
         .add(k.k2.mul(h.b))
@@ -117,7 +117,7 @@ fn polynomial<N: Number>(k: Fit<N>, h: Direction<N>) -> N
 }
 
 fn slopes<N: Number>(h: Direction<N>) -> Lms<N>
-    ensures { result ≡ slopes_of ops h }
+    ensures { result ≡ slopes_of N.ops h }
 {
     let l = N::literal(Literal::LongA)
         .mul(h.a)
@@ -133,7 +133,7 @@ fn slopes<N: Number>(h: Direction<N>) -> Lms<N>
 
 // The cube of 1 + s k, with its derivatives by s.
 fn cube_of_saturation<N: Number>(s: N, k: N) -> Jet<N>
-    ensures { result ≡ cube_of_saturation ops s k }
+    ensures { result ≡ cube_of_saturation N.ops s k }
 {
     let x = N::whole(1).add(s.mul(k));
     Jet {
@@ -144,7 +144,7 @@ fn cube_of_saturation<N: Number>(s: N, k: N) -> Jet<N>
 }
 
 fn weighed<N: Number>(w: Lms<N>, l: Jet<N>, m: Jet<N>, s: Jet<N>) -> Jet<N>
-    ensures { result ≡ weighed_of ops w l m s }
+    ensures { result ≡ weighed_of N.ops w l m s }
 {
     Jet {
         value: w.l.mul(l.value).add(w.m.mul(m.value)).add(w.s.mul(s.value)),
@@ -159,14 +159,14 @@ fn weighed<N: Number>(w: Lms<N>, l: Jet<N>, m: Jet<N>, s: Jet<N>) -> Jet<N>
 
 // One step of Halley's method from s.
 fn halley<N: Number>(s: N, f: Jet<N>) -> N
-    ensures { result ≡ halley_of ops s f }
+    ensures { result ≡ halley_of N.ops s f }
 {
     let below = square(f.first).sub(N::literal(Literal::Half).mul(f.value).mul(f.second));
     s.sub(f.value.mul(f.first).div(below))
 }
 
 fn stepped<N: Number>(w: Lms<N>, k: Lms<N>, s: N) -> N
-    ensures { result ≡ stepped_of ops w k s }
+    ensures { result ≡ stepped_of N.ops w k s }
 {
     let l = cube_of_saturation(s, k.l);
     let m = cube_of_saturation(s, k.m);
@@ -176,7 +176,7 @@ fn stepped<N: Number>(w: Lms<N>, k: Lms<N>, s: N) -> N
 
 // The largest saturation, chroma ÷ lightness, of a hue in sRGB. It is a part of the cusp.
 pub(crate) fn max_saturation<N: Number>(h: Direction<N>) -> N
-    ensures { result ≡ max_saturation ops h }
+    ensures { result ≡ max_saturation N.ops h }
 {
     let k = fitted(h);
     stepped(k.weights, slopes(h), polynomial(k, h)).mark(Stage::Cusp)

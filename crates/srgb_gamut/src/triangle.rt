@@ -21,7 +21,7 @@ pub struct Sides<N> {
 }
 
 fn mid_s<N: Number>(h: Direction<N>) -> N
-    ensures { result ≡ mid_s ops h }
+    ensures { result ≡ mid_s N.ops h }
 {
     let a = h.a;
     let b = h.b;
@@ -41,7 +41,7 @@ fn mid_s<N: Number>(h: Direction<N>) -> N
 }
 
 fn mid_t<N: Number>(h: Direction<N>) -> N
-    ensures { result ≡ mid_t ops h }
+    ensures { result ≡ mid_t N.ops h }
 {
     let a = h.a;
     let b = h.b;
@@ -63,7 +63,7 @@ fn mid_t<N: Number>(h: Direction<N>) -> N
 impl<N: Number> ST<N> {
     /// The triangle of a cusp.
     pub fn from_cusp(cusp: LC<N>) -> ST<N>
-        ensures { result ≡ st_of ops cusp }
+        ensures { result ≡ st_of N.ops cusp }
     {
         ST {
             s: cusp.chroma.div(cusp.lightness),
@@ -73,7 +73,7 @@ impl<N: Number> ST<N> {
 
     // A smooth approximation of the triangle of a hue's cusp.
     pub(crate) fn mid(h: Direction<N>) -> ST<N>
-        ensures { result ≡ mid_of ops h }
+        ensures { result ≡ mid_of N.ops h }
     {
         ST {
             s: mid_s(h),
@@ -82,7 +82,7 @@ impl<N: Number> ST<N> {
     }
 
     pub(crate) fn sides(self, lightness: N) -> Sides<N>
-        ensures { result ≡ sides_of ops self lightness }
+        ensures { result ≡ sides_of N.ops self lightness }
     {
         Sides {
             lower: lightness.mul(self.s),
@@ -94,7 +94,7 @@ impl<N: Number> ST<N> {
 impl<N: Number> Sides<N> {
     // A soft minimum by the second power.
     pub(crate) fn soft_min2(self) -> N
-        ensures { result ≡ soft_min2 ops self }
+        ensures { result ≡ soft_min2 N.ops self }
     {
         let one = N::whole(1);
         let lower = one.div(self.lower.mul(self.lower));
@@ -104,7 +104,7 @@ impl<N: Number> Sides<N> {
 
     // A soft minimum by the fourth power.
     pub(crate) fn soft_min4(self) -> N
-        ensures { result ≡ soft_min4 ops self }
+        ensures { result ≡ soft_min4 N.ops self }
     {
         let one = N::whole(1);
         let lower = one.div(self.lower.mul(self.lower).mul(self.lower).mul(self.lower));

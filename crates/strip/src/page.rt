@@ -27,14 +27,14 @@ use oklab::{Okhsl, oklab_to_okhsl, unspoiled};
 
 // a × a' + b × b'
 fn along<N: Number>(d: Direction<N>, e: Direction<N>) -> N
-    ensures { result ≡ along_of ops d e }
+    ensures { result ≡ along_of N.ops d e }
 {
     d.a.mul(e.a).add(d.b.mul(e.b))
 }
 
 // The valve with the largest of the three products, the lowest if equal.
 fn largest<N: Number>(first: N, second: N, third: N) -> u8
-    ensures { result ≡ largest_of ops first second third }
+    ensures { result ≡ largest_of N.ops first second third }
 {
     if first.lt(second) {
         if second.lt(third) { 3 } else { 2 }
@@ -80,21 +80,21 @@ fn indicate(
 
 // 1000 s
 fn opening_of<N: Number>(color: Okhsl<N>) -> N
-    ensures { result ≡ opening_of ops color }
+    ensures { result ≡ opening_of N.ops color }
 {
     N::whole(1000).mul(color.saturation)
 }
 
 // 120 l − 10
 fn temperature_of<N: Number>(color: Okhsl<N>) -> N
-    ensures { result ≡ temperature_of ops color }
+    ensures { result ≡ temperature_of N.ops color }
 {
     N::whole(120).mul(color.lightness).sub(N::whole(10))
 }
 
 // What an Okhsl colour indicates.
 fn indication<N: Number>(color: Okhsl<N>) -> Result<Indication, NumberFault>
-    ensures { result ≡ indication_of ops traced color }
+    ensures { result ≡ indication_of N.ops N.traced color }
 {
     let opening = opening_of(color);
     let temperature = temperature_of(color);
@@ -119,9 +119,9 @@ pub fn read<N: Number, B: Boundary<N>>(
     boundary: &mut B,
     color: Oklab<N>,
 ) -> Result<Indication, TurnFault>
-    ensures value { right boundary.old → Follows means (meaning boundary.old) (read_steps ops traced color) result }
-    ensures meaning { right boundary.old → meant_turn (λ i. i) result ≡ run (meaning boundary.old) (read_steps arith untold (map_oklab means color)) }
-    ensures stays { Stays right meaning model boundary.old boundary.new }
+    ensures value { B.right boundary.old → Follows N.means (B.meaning boundary.old) (read_steps N.ops N.traced color) result }
+    ensures meaning { B.right boundary.old → meant_turn (λ i. i) result ≡ run (B.meaning boundary.old) (read_steps N.arith untold (map_oklab N.means color)) }
+    ensures stays { Stays B.right B.meaning B.model boundary.old boundary.new }
 {
     let shade = oklab_to_okhsl(color, boundary)?;
     let shown = indication(shade)?;
@@ -140,13 +140,13 @@ impl<N: Number> Turn<N> for Page {
 
     ghost Wrote = { IndicationOf };
 
-    ghost reads = { seen means back };
+    ghost reads = { seen N.means N.back };
 
     ghost writes = { λ i. i };
 
-    ghost steps = { read_entry ops traced back };
+    ghost steps = { read_entry N.ops N.traced N.back };
 
-    ghost plainly = { read_steps arith untold };
+    ghost plainly = { read_steps N.arith untold };
 
     ghost carried = { λ m x a k. (read_steps-carried N.Number.hom N.Number.traced (map_oklab N.Number.back x)).carries m a k };
 
@@ -167,10 +167,10 @@ pub fn read_row<N: Number, B: Boundary<N>>(
     colors: &[Oklab<N::Plain>],
     indications: &mut [Indication],
 ) -> Result<(), RowFault>
-    ensures value { right boundary.old → Fills (Answering means (meaning boundary.old) (read_entry ops traced back)) colors.now indications.old result indications.new }
-    ensures meaning { right boundary.old → row (λ c. run (meaning boundary.old) (read_steps arith untold c)) (map (seen means back) colors.now) indications.old ≡ record { ends = ending result; entries = indications.new } }
+    ensures value { B.right boundary.old → Fills (Answering N.means (B.meaning boundary.old) (read_entry N.ops N.traced N.back)) colors.now indications.old result indications.new }
+    ensures meaning { B.right boundary.old → row (λ c. run (B.meaning boundary.old) (read_steps N.arith untold c)) (map (seen N.means N.back) colors.now) indications.old ≡ record { ends = ending result; entries = indications.new } }
     ensures untouched { Untouched result indications.old indications.new }
-    ensures stays { Stays right meaning model boundary.old boundary.new }
+    ensures stays { Stays B.right B.meaning B.model boundary.old boundary.new }
 {
     fill::<N, B, Page>(boundary, colors, indications)
 }

@@ -25,7 +25,7 @@ use valve_log::Reading;
 
 // The Okhsl colour of a reading: hue its valve, saturation its opening, lightness its temperature.
 fn shade<N: Number>(reading: Reading) -> Okhsl<N>
-    ensures { result ≡ shade_of ops reading }
+    ensures { result ≡ shade_of N.ops reading }
 {
     let degrees = 10 + reading.temperature as u16;
     Okhsl {
@@ -40,9 +40,9 @@ pub fn draw<N: Number, B: Boundary<N>>(
     boundary: &mut B,
     reading: Reading,
 ) -> Result<Oklab<N>, TurnFault>
-    ensures value { right boundary.old → Follows means (meaning boundary.old) (draw_steps ops traced reading) result }
-    ensures meaning { right boundary.old → meant_turn (map_oklab means) result ≡ run (meaning boundary.old) (draw_steps arith untold reading) }
-    ensures stays { Stays right meaning model boundary.old boundary.new }
+    ensures value { B.right boundary.old → Follows N.means (B.meaning boundary.old) (draw_steps N.ops N.traced reading) result }
+    ensures meaning { B.right boundary.old → meant_turn (map_oklab N.means) result ≡ run (B.meaning boundary.old) (draw_steps N.arith untold reading) }
+    ensures stays { Stays B.right B.meaning B.model boundary.old boundary.new }
 {
     reading.check()?;
     let color = okhsl_to_oklab(shade(reading), boundary)?;
@@ -63,11 +63,11 @@ impl<N: Number> Turn<N> for Panel {
 
     ghost reads = { λ r. r };
 
-    ghost writes = { seen means back };
+    ghost writes = { seen N.means N.back };
 
-    ghost steps = { draw_entry ops traced plain };
+    ghost steps = { draw_entry N.ops N.traced N.plain };
 
-    ghost plainly = { draw_steps arith untold };
+    ghost plainly = { draw_steps N.arith untold };
 
     ghost carried = { λ m x a k. (draw_entry-carried N.Number.hom N.Number.traced N.Number.plain N.Number.back N.Number.again x).carries m a k };
 
@@ -88,10 +88,10 @@ pub fn draw_row<N: Number, B: Boundary<N>>(
     readings: &[Reading],
     colors: &mut [Oklab<N::Plain>],
 ) -> Result<(), RowFault>
-    ensures value { right boundary.old → Fills (Answering means (meaning boundary.old) (draw_entry ops traced plain)) readings.now colors.old result colors.new }
-    ensures meaning { right boundary.old → row (λ x. run (meaning boundary.old) (draw_steps arith untold x)) readings.now (map (seen means back) colors.old) ≡ record { ends = ending result; entries = map (seen means back) colors.new } }
+    ensures value { B.right boundary.old → Fills (Answering N.means (B.meaning boundary.old) (draw_entry N.ops N.traced N.plain)) readings.now colors.old result colors.new }
+    ensures meaning { B.right boundary.old → row (λ x. run (B.meaning boundary.old) (draw_steps N.arith untold x)) readings.now (map (seen N.means N.back) colors.old) ≡ record { ends = ending result; entries = map (seen N.means N.back) colors.new } }
     ensures untouched { Untouched result colors.old colors.new }
-    ensures stays { Stays right meaning model boundary.old boundary.new }
+    ensures stays { Stays B.right B.meaning B.model boundary.old boundary.new }
 {
     fill::<N, B, Panel>(boundary, readings, colors)
 }

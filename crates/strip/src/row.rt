@@ -35,10 +35,10 @@ pub trait Turn<N: Number> {
     ghost plainly: { Read → Steps Meaning (ResultOf Wrote TurnFaultOf) };
 
     fn turn<B: Boundary<N>>(boundary: &mut B, x: Self::From) -> Result<Self::To, TurnFault>
-        ensures value { right boundary.old → Follows means (meaning boundary.old) (steps x) result }
-        ensures stays { Stays right meaning model boundary.old boundary.new };
+        ensures value { B.right boundary.old → Follows N.means (B.meaning boundary.old) (steps x) result }
+        ensures stays { Stays B.right B.meaning B.model boundary.old boundary.new };
 
-    ghost carried: { (g : Gamut) (x : Self.From) (a : ResultOf Self.To TurnFaultOf) → Follows means g (steps x) a → meant_turn writes a ≡ run g (plainly (reads x)) };
+    ghost carried: { (g : Gamut) (x : Self.From) (a : ResultOf Self.To TurnFaultOf) → Follows N.means g (steps x) a → meant_turn writes a ≡ run g (plainly (reads x)) };
 }
 
 // Reads one entry of a row.
@@ -63,10 +63,10 @@ pub fn fill<N: Number, B: Boundary<N>, T: Turn<N>>(
     from: &[T::From],
     to: &mut [T::To],
 ) -> Result<(), RowFault>
-    ensures value { right boundary.old → Fills (Answering means (meaning boundary.old) steps) from.now to.old result to.new }
-    ensures meaning { right boundary.old → row (λ x. run (meaning boundary.old) (plainly x)) (map reads from.now) (map writes to.old) ≡ record { ends = ending result; entries = map writes to.new } }
+    ensures value { B.right boundary.old → Fills (Answering N.means (B.meaning boundary.old) steps) from.now to.old result to.new }
+    ensures meaning { B.right boundary.old → row (λ x. run (B.meaning boundary.old) (plainly x)) (map reads from.now) (map writes to.old) ≡ record { ends = ending result; entries = map writes to.new } }
     ensures untouched { Untouched result to.old to.new }
-    ensures stays { Stays right meaning model boundary.old boundary.new }
+    ensures stays { Stays B.right B.meaning B.model boundary.old boundary.new }
 {
     if from.len() != to.len() {
         return Err(RowFault::Length);

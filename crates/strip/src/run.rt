@@ -64,8 +64,8 @@ fn ask<N: Number, B: Boundary<N>>(
     a: N::Plain,
     b: N::Plain,
 ) -> Result<ChromaValues<N::Plain>, NumberFault>
-    ensures value { right boundary.old → Follows means (meaning boundary.old) (ask_query ops traced plain back lightness a b) result }
-    ensures stays { Stays right meaning model boundary.old boundary.new }
+    ensures value { B.right boundary.old → Follows N.means (B.meaning boundary.old) (ask_query N.ops N.traced N.plain N.back lightness a b) result }
+    ensures stays { Stays B.right B.meaning B.model boundary.old boundary.new }
 {
     let v = boundary.query(N::from_plain(lightness), N::from_plain(a), N::from_plain(b))?;
     Ok(ChromaValues {
@@ -77,9 +77,9 @@ fn ask<N: Number, B: Boundary<N>>(
 
 // Makes one call.
 fn make<N: Number, B: Boundary<N>>(boundary: &mut B, call: &mut Call<N::Plain>)
-    ensures value { right boundary.old → Made means ops traced plain back (meaning boundary.old) call.old call.new }
-    ensures emptied { right boundary.old → call.old ≡ ForgetCall → fresh boundary.new }
-    ensures stays { Stays right meaning model boundary.old boundary.new }
+    ensures value { B.right boundary.old → Made N.means N.ops N.traced N.plain N.back (B.meaning boundary.old) call.old call.new }
+    ensures emptied { B.right boundary.old → call.old ≡ ForgetCall → B.fresh boundary.new }
+    ensures stays { Stays B.right B.meaning B.model boundary.old boundary.new }
 {
     match call {
         Call::Draw(c) => {
@@ -101,12 +101,12 @@ fn make<N: Number, B: Boundary<N>>(boundary: &mut B, call: &mut Call<N::Plain>)
 /// the base's meaning and the factors for good; a query among the calls, and every query afterwards, is answered or
 /// refused as by the model. After a last forget the memos are empty.
 pub fn replay<N: Number, B: Boundary<N>>(boundary: &mut B, calls: &mut [Call<N::Plain>])
-    ensures value { right boundary.old → Each (Made means ops traced plain back (meaning boundary.old)) calls.old calls.new }
-    ensures alike { right boundary.old → AsModelled means back arith (modelled arith (model boundary.old)) calls.old calls.new }
-    ensures afresh { fresh boundary.old → AsModelled means back arith (modelled arith (model boundary.old)) calls.old calls.new }
-    ensures emptied { right boundary.old → EndsForgetting calls.old → fresh boundary.new }
-    ensures queries { (q : Query Meaning) → answered arith (meaning boundary.new) q ≡ answered arith (modelled arith (model boundary.old)) q }
-    ensures stays { Stays right meaning model boundary.old boundary.new }
+    ensures value { B.right boundary.old → Each (Made N.means N.ops N.traced N.plain N.back (B.meaning boundary.old)) calls.old calls.new }
+    ensures alike { B.right boundary.old → AsModelled N.means N.back N.arith (modelled N.arith (B.model boundary.old)) calls.old calls.new }
+    ensures afresh { B.fresh boundary.old → AsModelled N.means N.back N.arith (modelled N.arith (B.model boundary.old)) calls.old calls.new }
+    ensures emptied { B.right boundary.old → EndsForgetting calls.old → B.fresh boundary.new }
+    ensures queries { (q : Query Meaning) → answered N.arith (B.meaning boundary.new) q ≡ answered N.arith (modelled N.arith (B.model boundary.old)) q }
+    ensures stays { Stays B.right B.meaning B.model boundary.old boundary.new }
 {
     for i in 0..calls.len() {
         make(boundary, &mut calls[i]);

@@ -9,5 +9,5 @@ pub returns : goal.returns
 unfolding oklab_to_linear_srgb
 returns g c =
     let n = g.N.Number in
-    let e : c.marked-rgb.result ≡ oklab_to_linear_srgb n.ops c.args.c = search rules in
+    let e : c.marked_rgb.result ≡ oklab_to_linear_srgb n.ops c.args.c = search rules in
     record { value = e; meaning = ap (map_rgb n.means) e ∙ oklab_to_linear_srgb-means g.met.N.Number.hom c.args.c }

@@ -9,5 +9,5 @@ pub returns : goal.returns
 unfolding xyz_to_oklab
 returns g c =
     let n = g.N.Number in
-    let e : c.marked-oklab.result ≡ xyz_to_oklab n.ops c.args.c = search rules in
+    let e : c.marked_oklab.result ≡ xyz_to_oklab n.ops c.args.c = search rules in
     record { value = e; meaning = ap (map_oklab n.means) e ∙ xyz_to_oklab-means g.met.N.Number.hom c.args.c }

@@ -36,7 +36,7 @@ returns g c =
     let b = g.B.Boundary in
     let m = b.meaning c.args.boundary.now in
     let made = Made n.means n.ops n.traced n.plain n.back m in
-    let model : m ≡ modelled n.arith (b.model c.args.boundary.now) = fun_ext (λ q. g.met.B.Boundary.modelled c.args.boundary.now q) in
+    let model : m ≡ modelled n.arith (b.model c.args.boundary.now) = fun_ext (λ q. g.met.B.Boundary.as_modelled c.args.boundary.now q) in
     let each : b.right c.args.boundary.now → Each made c.args.calls.now c.loop-i.calls =
     λ h. each_all made c.loop-i.i c.args.calls.now c.loop-i.calls (omega arith) c.loop-i.invariant.0 (c.loop-i.invariant.3 h) in
     let alike : b.right c.args.boundary.now → AsModelled n.means n.back n.arith (modelled n.arith (b.model c.args.boundary.now)) c.args.calls.now c.loop-i.calls =
