@@ -9,5 +9,5 @@ pub returns : goal.returns
 unfolding chroma_values
 returns g c =
     let n = g.N.Number in
-    let e : c.values-at.result ≡ chroma_values n.ops c.args.lightness c.args.h = search rules in
+    let e : c.values_at.result ≡ chroma_values n.ops c.args.lightness c.args.h = search rules in
     record { value = e; meaning = ap (map_values n.means) e ∙ chroma_values-means g.met.N.Number.hom c.args.lightness c.args.h }

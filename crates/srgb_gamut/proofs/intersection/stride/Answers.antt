@@ -5,4 +5,4 @@ use Rattle.srgb_gamut.proofs.intersection.stride.Goals as goal
 
 pub returns : goal.returns
 unfolding stride
-returns g c = c.stride-by.ensures ∙ ap (λ u. stride_by g.N.Number.ops u c.args.j.value) (search rules)
+returns g c = c.stride_by.ensures ∙ ap (λ u. stride_by g.N.Number.ops u c.args.j.value) (search rules)
