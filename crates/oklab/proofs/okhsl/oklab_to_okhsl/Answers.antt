@@ -11,48 +11,48 @@ use Rattle.oklab.proofs.OkhslMeans.{okhsl_steps-carried}
 use Rattle.oklab.proofs.OkhslSteps.{stays_same, lab_out_of_range, lost_chroma, at_grey, coloured}
 use Rattle.oklab.proofs.okhsl.oklab_to_okhsl.Goals as goal
 
-pub returns-then-not-oklab-in-range : goal.returns-then-not-oklab-in-range
-returns-then-not-oklab-in-range g c =
+pub returns-then-not-oklab_in_range : goal.returns-then-not-oklab_in_range
+returns-then-not-oklab_in_range g c =
     let n = g.N.Number in
     let m = g.B.Boundary.meaning c.args.boundary.now in
-    let v = follows_ends n.means m (Err Range) (lab_out_of_range n.ops n.traced c.args.color c.if-not-oklab-in-range.ensures) refl in
+    let v = follows_ends n.means m (Err Range) (lab_out_of_range n.ops n.traced c.args.color c.if-not-oklab_in_range.ensures) refl in
     record { value = λ _. v; meaning = λ _. (okhsl_steps-carried g.met.N.Number.hom n.traced c.args.color).carries m (Err Range) v; stays = stays_same }
 
-pub returns-in-err-unspoiled : goal.returns-in-err-unspoiled
-returns-in-err-unspoiled g c =
+pub returns-in_err-unspoiled : goal.returns-in_err-unspoiled
+returns-in_err-unspoiled g c =
     let n = g.N.Number in
     let m = g.B.Boundary.meaning c.args.boundary.now in
-    let r = c.from-residual.result in
+    let r = c.from_residual.result in
     let x = c.hypot-chroma.result in
-    let p = err_from_is_err_and r c.from-residual.ensures.1 in
-    let w = spoiled_refused n.ops n.traced x c.unspoiled.result c.unspoiled.ensures c.in-err-unspoiled.was in
-    let v = follows_ends n.means m r (lost_chroma n.ops n.traced c.args.color c.if-not-oklab-in-range.ensures x c.hypot-chroma.ensures w.0)
+    let p = err_from_is_err_and r c.from_residual.ensures.1 in
+    let w = spoiled_refused n.ops n.traced x c.unspoiled.result c.unspoiled.ensures c.in_err-unspoiled.was in
+    let v = follows_ends n.means m r (lost_chroma n.ops n.traced c.args.color c.if-not-oklab_in_range.ensures x c.hypot-chroma.ensures w.0)
     (p.1 ∙ ap Err (p.2 ∙ w.1)) in
     record { value = λ _. v; meaning = λ _. (okhsl_steps-carried g.met.N.Number.hom n.traced c.args.color).carries m r v; stays = stays_same }
 
-pub returns-then-is-grey : goal.returns-then-is-grey
-returns-then-is-grey g c =
+pub returns-then-is_grey : goal.returns-then-is_grey
+returns-then-is_grey g c =
     let n = g.N.Number in
     let m = g.B.Boundary.meaning c.args.boundary.now in
-    let r = c.settled-okhsl.result in
+    let r = c.settled_okhsl.result in
     let x = c.hypot-chroma.result in
-    let kept = unspoiled_passed n.ops n.traced x c.unspoiled.result c.unspoiled.ensures c.in-ok-unspoiled.was in
-    let v = follows_ends n.means m r (at_grey n.ops n.traced c.args.color c.if-not-oklab-in-range.ensures x c.hypot-chroma.ensures kept c.if-is-grey.ensures)
-    (c.settled-okhsl.ensures ∙ ap (settled_okhsl n.ops n.traced) c.okhsl-grey.ensures) in
+    let kept = unspoiled_passed n.ops n.traced x c.unspoiled.result c.unspoiled.ensures c.in_ok-unspoiled.was in
+    let v = follows_ends n.means m r (at_grey n.ops n.traced c.args.color c.if-not-oklab_in_range.ensures x c.hypot-chroma.ensures kept c.if-is_grey.ensures)
+    (c.settled_okhsl.ensures ∙ ap (settled_okhsl n.ops n.traced) c.okhsl_grey.ensures) in
     record { value = λ _. v; meaning = λ _. (okhsl_steps-carried g.met.N.Number.hom n.traced c.args.color).carries m r v; stays = stays_same }
 
-pub returns-in-err-values : goal.returns-in-err-values
-returns-in-err-values g c =
+pub returns-in_err-values : goal.returns-in_err-values
+returns-in_err-values g c =
     let n = g.N.Number in
     let m = g.B.Boundary.meaning c.args.boundary.now in
-    let r = c.from-residual-in-err-values.result in
+    let r = c.from_residual-in_err-values.result in
     let x = c.hypot-chroma.result in
     let next = λ (w : ChromaValues g.row.N.Denot). settled_okhsl n.ops n.traced (okhsl_with n.ops n.traced c.args.color x w) in
-    let kept = unspoiled_passed n.ops n.traced x c.unspoiled.result c.unspoiled.ensures c.in-ok-unspoiled.was in
-    let p = err_from_is_err_and r c.from-residual-in-err-values.ensures.1 in
-    let e : r ≡ and_then c.query.result next = p.1 ∙ ap Err p.2 ∙ ap (λ q. and_then q next) (sym c.in-err-values.was) in
+    let kept = unspoiled_passed n.ops n.traced x c.unspoiled.result c.unspoiled.ensures c.in_ok-unspoiled.was in
+    let p = err_from_is_err_and r c.from_residual-in_err-values.ensures.1 in
+    let e : r ≡ and_then c.query.result next = p.1 ∙ ap Err p.2 ∙ ap (λ q. and_then q next) (sym c.in_err-values.was) in
     let v = λ (h : g.B.Boundary.right c.args.boundary.now). follows_asks n.means m n.ops n.traced next r
-    (coloured n.ops n.traced c.args.color c.if-not-oklab-in-range.ensures x c.hypot-chroma.ensures kept c.if-is-grey.ensures c.div.result c.div-2.result c.div.ensures c.div-2.ensures)
+    (coloured n.ops n.traced c.args.color c.if-not-oklab_in_range.ensures x c.hypot-chroma.ensures kept c.if-is_grey.ensures c.div.result c.div-2.result c.div.ensures c.div-2.ensures)
     (c.query.ensures.gives h) e in
     record { value = v; meaning = λ h. (okhsl_steps-carried g.met.N.Number.hom n.traced c.args.color).carries m r (v h); stays = c.query.ensures.stays }
 
@@ -60,13 +60,13 @@ pub returns : goal.returns
 returns g c =
     let n = g.N.Number in
     let m = g.B.Boundary.meaning c.args.boundary.now in
-    let r = c.settled-okhsl-2.result in
+    let r = c.settled_okhsl-2.result in
     let x = c.hypot-chroma.result in
     let next = λ (w : ChromaValues g.row.N.Denot). settled_okhsl n.ops n.traced (okhsl_with n.ops n.traced c.args.color x w) in
-    let kept = unspoiled_passed n.ops n.traced x c.unspoiled.result c.unspoiled.ensures c.in-ok-unspoiled.was in
+    let kept = unspoiled_passed n.ops n.traced x c.unspoiled.result c.unspoiled.ensures c.in_ok-unspoiled.was in
     let e : r ≡ and_then c.query.result next =
-    c.settled-okhsl-2.ensures ∙ ap (settled_okhsl n.ops n.traced) c.okhsl-with.ensures ∙ ap (λ q. and_then q next) (sym c.in-ok-values.was) in
+    c.settled_okhsl-2.ensures ∙ ap (settled_okhsl n.ops n.traced) c.okhsl_with.ensures ∙ ap (λ q. and_then q next) (sym c.in_ok-values.was) in
     let v = λ (h : g.B.Boundary.right c.args.boundary.now). follows_asks n.means m n.ops n.traced next r
-    (coloured n.ops n.traced c.args.color c.if-not-oklab-in-range.ensures x c.hypot-chroma.ensures kept c.if-is-grey.ensures c.div.result c.div-2.result c.div.ensures c.div-2.ensures)
+    (coloured n.ops n.traced c.args.color c.if-not-oklab_in_range.ensures x c.hypot-chroma.ensures kept c.if-is_grey.ensures c.div.result c.div-2.result c.div.ensures c.div-2.ensures)
     (c.query.ensures.gives h) e in
     record { value = v; meaning = λ h. (okhsl_steps-carried g.met.N.Number.hom n.traced c.args.color).carries m r (v h); stays = c.query.ensures.stays }

@@ -7,14 +7,14 @@ use Rattle.oklab.specs.Okhsv.{oklab_of_okhsv}
 use Rattle.oklab.proofs.OkhsvMeans.{oklab_of_okhsv-means}
 use Rattle.oklab.proofs.okhsv.okhsv_to_oklab.Goals as goal
 
-pub returns-then-not-okhsv-in-range : goal.returns-then-not-okhsv-in-range
-returns-then-not-okhsv-in-range g c =
+pub returns-then-not-okhsv_in_range : goal.returns-then-not-okhsv_in_range
+returns-then-not-okhsv_in_range g c =
     let n = g.N.Number in
     let e : Err Range ≡ oklab_of_okhsv n.ops n.traced c.args.color = search rules in
     record { value = e; meaning = ap (meant (map_oklab n.means)) e ∙ oklab_of_okhsv-means g.met.N.Number.hom n.traced c.args.color }
 
-pub returns-then-not-is-direction : goal.returns-then-not-is-direction
-returns-then-not-is-direction g c =
+pub returns-then-not-is_direction : goal.returns-then-not-is_direction
+returns-then-not-is_direction g c =
     let n = g.N.Number in
     let e : Err Direction ≡ oklab_of_okhsv n.ops n.traced c.args.color = search rules in
     record { value = e; meaning = ap (meant (map_oklab n.means)) e ∙ oklab_of_okhsv-means g.met.N.Number.hom n.traced c.args.color }
@@ -22,5 +22,5 @@ returns-then-not-is-direction g c =
 pub returns : goal.returns
 returns g c =
     let n = g.N.Number in
-    let e : c.settled-oklab.result ≡ oklab_of_okhsv n.ops n.traced c.args.color = search rules in
+    let e : c.settled_oklab.result ≡ oklab_of_okhsv n.ops n.traced c.args.color = search rules in
     record { value = e; meaning = ap (meant (map_oklab n.means)) e ∙ oklab_of_okhsv-means g.met.N.Number.hom n.traced c.args.color }

@@ -6,14 +6,14 @@ use Rattle.oklab.specs.Okhwb.{map_okhsv, okhsv_of_okhwb}
 use Rattle.oklab.proofs.ConversionMeans.{okhsv_of_okhwb-means}
 use Rattle.oklab.proofs.okhsv.okhwb_to_okhsv.Goals as goal
 
-pub returns-then-not-okhwb-in-range : goal.returns-then-not-okhwb-in-range
-returns-then-not-okhwb-in-range g c =
+pub returns-then-not-okhwb_in_range : goal.returns-then-not-okhwb_in_range
+returns-then-not-okhwb_in_range g c =
     let n = g.N.Number in
     let e : Err Range ≡ okhsv_of_okhwb n.ops n.traced c.args.color = search rules in
     record { value = e; meaning = ap (meant (map_okhsv n.means)) e ∙ okhsv_of_okhwb-means g.met.N.Number.hom n.traced c.args.color }
 
-pub returns-then-not-is-direction : goal.returns-then-not-is-direction
-returns-then-not-is-direction g c =
+pub returns-then-not-is_direction : goal.returns-then-not-is_direction
+returns-then-not-is_direction g c =
     let n = g.N.Number in
     let e : Err Direction ≡ okhsv_of_okhwb n.ops n.traced c.args.color = search rules in
     record { value = e; meaning = ap (meant (map_okhsv n.means)) e ∙ okhsv_of_okhwb-means g.met.N.Number.hom n.traced c.args.color }
@@ -21,5 +21,5 @@ returns-then-not-is-direction g c =
 pub returns : goal.returns
 returns g c =
     let n = g.N.Number in
-    let e : c.settled-okhsv.result ≡ okhsv_of_okhwb n.ops n.traced c.args.color = search rules in
+    let e : c.settled_okhsv.result ≡ okhsv_of_okhwb n.ops n.traced c.args.color = search rules in
     record { value = e; meaning = ap (meant (map_okhsv n.means)) e ∙ okhsv_of_okhwb-means g.met.N.Number.hom n.traced c.args.color }

@@ -6,14 +6,14 @@ use Rattle.oklab.specs.Okhwb.{map_okhwb, okhwb_of_okhsv}
 use Rattle.oklab.proofs.ConversionMeans.{okhwb_of_okhsv-means}
 use Rattle.oklab.proofs.okhwb.okhsv_to_okhwb.Goals as goal
 
-pub returns-then-not-okhsv-in-range : goal.returns-then-not-okhsv-in-range
-returns-then-not-okhsv-in-range g c =
+pub returns-then-not-okhsv_in_range : goal.returns-then-not-okhsv_in_range
+returns-then-not-okhsv_in_range g c =
     let n = g.N.Number in
     let e : Err Range ≡ okhwb_of_okhsv n.ops n.traced c.args.color = search rules in
     record { value = e; meaning = ap (meant (map_okhwb n.means)) e ∙ okhwb_of_okhsv-means g.met.N.Number.hom n.traced c.args.color }
 
-pub returns-then-not-is-direction : goal.returns-then-not-is-direction
-returns-then-not-is-direction g c =
+pub returns-then-not-is_direction : goal.returns-then-not-is_direction
+returns-then-not-is_direction g c =
     let n = g.N.Number in
     let e : Err Direction ≡ okhwb_of_okhsv n.ops n.traced c.args.color = search rules in
     record { value = e; meaning = ap (meant (map_okhwb n.means)) e ∙ okhwb_of_okhsv-means g.met.N.Number.hom n.traced c.args.color }
@@ -21,5 +21,5 @@ returns-then-not-is-direction g c =
 pub returns : goal.returns
 returns g c =
     let n = g.N.Number in
-    let e : c.settled-okhwb.result ≡ okhwb_of_okhsv n.ops n.traced c.args.color = search rules in
+    let e : c.settled_okhwb.result ≡ okhwb_of_okhsv n.ops n.traced c.args.color = search rules in
     record { value = e; meaning = ap (meant (map_okhwb n.means)) e ∙ okhwb_of_okhsv-means g.met.N.Number.hom n.traced c.args.color }

@@ -7,14 +7,14 @@ use Rattle.oklab.specs.Oklch.{oklab_of_oklch}
 use Rattle.oklab.proofs.ConversionMeans.{oklab_of_oklch-means}
 use Rattle.oklab.proofs.oklch.oklch_to_oklab.Goals as goal
 
-pub returns-then-not-oklch-in-range : goal.returns-then-not-oklch-in-range
-returns-then-not-oklch-in-range g c =
+pub returns-then-not-oklch_in_range : goal.returns-then-not-oklch_in_range
+returns-then-not-oklch_in_range g c =
     let n = g.N.Number in
     let e : Err Range ≡ oklab_of_oklch n.ops n.traced c.args.color = search rules in
     record { value = e; meaning = ap (meant (map_oklab n.means)) e ∙ oklab_of_oklch-means g.met.N.Number.hom n.traced c.args.color }
 
-pub returns-then-not-is-direction : goal.returns-then-not-is-direction
-returns-then-not-is-direction g c =
+pub returns-then-not-is_direction : goal.returns-then-not-is_direction
+returns-then-not-is_direction g c =
     let n = g.N.Number in
     let e : Err Direction ≡ oklab_of_oklch n.ops n.traced c.args.color = search rules in
     record { value = e; meaning = ap (meant (map_oklab n.means)) e ∙ oklab_of_oklch-means g.met.N.Number.hom n.traced c.args.color }
@@ -22,5 +22,5 @@ returns-then-not-is-direction g c =
 pub returns : goal.returns
 returns g c =
     let n = g.N.Number in
-    let e : c.settled-oklab.result ≡ oklab_of_oklch n.ops n.traced c.args.color = search rules in
+    let e : c.settled_oklab.result ≡ oklab_of_oklch n.ops n.traced c.args.color = search rules in
     record { value = e; meaning = ap (meant (map_oklab n.means)) e ∙ oklab_of_oklch-means g.met.N.Number.hom n.traced c.args.color }

@@ -7,8 +7,8 @@ use Rattle.oklab.specs.Spaces.{oklab_of_linear_srgb}
 use Rattle.oklab.proofs.ConversionMeans.{oklab_of_linear_srgb-means}
 use Rattle.oklab.proofs.spaces.linear_srgb_to_oklab.Goals as goal
 
-pub returns-then-not-none-spoiled : goal.returns-then-not-none-spoiled
-returns-then-not-none-spoiled g c =
+pub returns-then-not-none_spoiled : goal.returns-then-not-none_spoiled
+returns-then-not-none_spoiled g c =
     let n = g.N.Number in
     let e : Err Range ≡ oklab_of_linear_srgb n.ops n.traced c.args.color = search rules in
     record { value = e; meaning = ap (meant (map_oklab n.means)) e ∙ oklab_of_linear_srgb-means g.met.N.Number.hom n.traced c.args.color }
@@ -16,5 +16,5 @@ returns-then-not-none-spoiled g c =
 pub returns : goal.returns
 returns g c =
     let n = g.N.Number in
-    let e : c.settled-oklab.result ≡ oklab_of_linear_srgb n.ops n.traced c.args.color = search rules in
+    let e : c.settled_oklab.result ≡ oklab_of_linear_srgb n.ops n.traced c.args.color = search rules in
     record { value = e; meaning = ap (meant (map_oklab n.means)) e ∙ oklab_of_linear_srgb-means g.met.N.Number.hom n.traced c.args.color }

@@ -7,8 +7,8 @@ use Rattle.oklab.specs.Spaces.{xyz_of_oklab}
 use Rattle.oklab.proofs.ConversionMeans.{xyz_of_oklab-means}
 use Rattle.oklab.proofs.spaces.oklab_to_xyz.Goals as goal
 
-pub returns-then-not-oklab-in-range : goal.returns-then-not-oklab-in-range
-returns-then-not-oklab-in-range g c =
+pub returns-then-not-oklab_in_range : goal.returns-then-not-oklab_in_range
+returns-then-not-oklab_in_range g c =
     let n = g.N.Number in
     let e : Err Range ≡ xyz_of_oklab n.ops n.traced c.args.color = search rules in
     record { value = e; meaning = ap (meant (map_xyz n.means)) e ∙ xyz_of_oklab-means g.met.N.Number.hom n.traced c.args.color }
@@ -16,5 +16,5 @@ returns-then-not-oklab-in-range g c =
 pub returns : goal.returns
 returns g c =
     let n = g.N.Number in
-    let e : c.settled-xyz.result ≡ xyz_of_oklab n.ops n.traced c.args.color = search rules in
+    let e : c.settled_xyz.result ≡ xyz_of_oklab n.ops n.traced c.args.color = search rules in
     record { value = e; meaning = ap (meant (map_xyz n.means)) e ∙ xyz_of_oklab-means g.met.N.Number.hom n.traced c.args.color }
