@@ -1,4 +1,6 @@
 // Boundaries of a gamut, and stacks of margins and memos over them.
+#![tactic(auto)]
+
 mod boundary;
 mod margin;
 mod memo;

@@ -1,4 +1,6 @@
 // The faults of the library, each inside the next: a number's, an entry's, a row's, a block's.
+#![tactic(auto)]
+
 mod faults;
 mod refusal;
 

@@ -1,5 +1,5 @@
 -- The laws of fractions as an exact number kind.
-use Rattle.std.specs.Prelude.{◌≡◌, zero, ◌≤◌, Bool, true, false, cond, not, ◌&&◌, ℤ, pos, negsuc, neg_ℤ, Decides, ◌==◌, unsigned_abs, refl}
+use Rattle.std.specs.Prelude.{◌≡◌, ◌≤◌, Bool, true, false, cond, not, ◌&&◌, ℤ, pos, negsuc, neg_ℤ, Decides, ◌==◌, unsigned_abs, refl}
 use Rattle.std.proofs.Common.{inl, inr, sym, ap, subst}
 use Rattle.std.proofs.Math.Nat as N
 use Rattle.std.proofs.lemmas.Bool.{and_from}

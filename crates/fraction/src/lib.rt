@@ -1,4 +1,6 @@
 // Fractions of machine numbers as an exact number kind.
+#![tactic(auto)]
+
 mod degree;
 mod divisor;
 mod fraction;

@@ -1,7 +1,6 @@
 -- A function at each number of a record.
 use Rattle.gamut.specs.declared.chroma.ChromaValues.{ChromaValues}
 use Rattle.gamut.specs.declared.direction.Direction.{Direction}
-use Rattle.gamut.specs.declared.lms.Lms.{Lms}
 use Rattle.gamut.specs.declared.oklab.Oklab.{Oklab}
 use Rattle.gamut.specs.declared.rgb.LinSrgb.{LinSrgb}
 use Rattle.gamut.specs.declared.xyz.Xyz.{Xyz}

@@ -1,4 +1,6 @@
 // The colour spaces Oklab, linear sRGB and XYZ, the toe, and the curve between Okhsl's saturation and Oklab's chroma.
+#![tactic(auto)]
+
 pub mod chroma;
 pub mod curve;
 pub mod direction;

@@ -1,5 +1,5 @@
 -- The laws of an exact kind's arithmetic: it may lose a result, but answers no wrong one, and loses none that is small.
-use Rattle.std.specs.Prelude.{◌≡◌, ℕ, ◌≤◌, Bool, true, false, cond, not, T, ◌⊎◌, ℤ, pos, neg_ℤ, Some, None, Decides, Option, nat_le, unsigned_abs, Float}
+use Rattle.std.specs.Prelude.{◌≡◌, ◌≤◌, Bool, true, false, cond, not, ◌⊎◌, ℤ, pos, neg_ℤ, Some, None, Decides, Option, nat_le, unsigned_abs, Float}
 use Rattle.rational.specs.Algebra.{zero_of}
 use Rattle.rational.specs.Rational.{Rational, exact}
 use Rattle.rational.specs.Nearest.{nearest}

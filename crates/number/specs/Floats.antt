@@ -1,5 +1,5 @@
 -- f32 as a number kind: IEEE 754's binary32, each operation rounded once, to nearest even.
-use Rattle.std.specs.Prelude.{ℕ, ◌^◌, Bool, true, false, cond, not, ◌&&◌, ℤ, pos, negsuc, Some, None, Option, ◌==◌, nat_le, unsigned_abs, Float}
+use Rattle.std.specs.Prelude.{◌^◌, Bool, true, false, cond, not, ◌&&◌, ℤ, pos, negsuc, Some, None, Option, ◌==◌, nat_le, unsigned_abs, Float}
 use Rattle.std.specs.Bool.{beq}
 use Rattle.std.specs.Float.Ieee as Ieee
 use Rattle.std.specs.Float.{nan, inf, fin, binary32, binary64}

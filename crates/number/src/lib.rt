@@ -1,4 +1,6 @@
 // Number kinds: what the colour formulas compute with.
+#![tactic(auto)]
+
 mod fault;
 mod float32;
 mod formulas;

@@ -1,5 +1,6 @@
 //! Exact fractions of whole numbers of any size, in lowest terms, as definitions and theorems. There is nothing to run: each function here
 //! bears a theorem in its contract, so that its proof is asked for. The definitions and the statements are in specs/.
+#![tactic(auto)]
 
 ghost use Rattle.rational.specs.Algebra.{OrderedField};
 ghost use Rattle.rational.specs.Gcd.{GcdIsGreatest};

@@ -13,7 +13,7 @@ use Rattle.roots.proofs.Powers.{power_at, square, cube, power_of_product, power_
 use Rattle.roots.proofs.Rounding.{near}
 use Rattle.roots.proofs.FloatRoots.{square_twice, at_own}
 use Rattle.roots.proofs.Signs.{sign_of_units}
-use Rattle.roots.proofs.Patterns.{Parts, steps_low, steps_pos, value_of, nan_bits_lem, inf_bits, not_finite, not_signed, size_is, written}
+use Rattle.roots.proofs.Patterns.{Parts, steps_low, steps_pos, value_of, nan_bits_lem, inf_bits, not_finite, not_signed, size_is}
 
 -- ---- less than a half away is the nearest
 

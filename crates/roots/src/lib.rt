@@ -1,4 +1,6 @@
 // Square and cube roots: of floats, each the `f32` nearest to the exact root, and of whole numbers.
+#![tactic(auto)]
+
 mod guess;
 mod pattern;
 mod whole;

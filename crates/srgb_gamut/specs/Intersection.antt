@@ -1,6 +1,6 @@
 -- Where a line in the plane of a hue leaves sRGB: L = l0 (1 − t) + t l1, C = t c1.
 use Rattle.std.specs.Prelude.{Bool, cond, pos}
-use Rattle.number.specs.Decimals.{plus, minus}
+use Rattle.number.specs.Decimals.{plus}
 use Rattle.number.specs.Formulas.{square, cube}
 use Rattle.number.specs.Ops.{Ops}
 use Rattle.number.specs.declared.fault.Stage.TheVariants.{Intersection}

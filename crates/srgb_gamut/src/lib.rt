@@ -1,4 +1,6 @@
 // The gamut of sRGB in Oklab: for each hue its cusp, the chroma that a line reaches, and the chroma values of a lightness.
+#![tactic(auto)]
+
 mod chroma;
 mod cusp;
 mod intersection;

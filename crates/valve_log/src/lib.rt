@@ -1,4 +1,6 @@
 // The valve log: blocks of 512 bytes, each with at most 62 readings under a checksum.
+#![tactic(auto)]
+
 mod block;
 mod checksum;
 mod reading;
