@@ -45,7 +45,7 @@ module _ {F : Type 0} {o : FieldOps F} (K : OrderedField o) where
   -- m × the root of 1 + (n ÷ m)²
   scaled-root : (m n c r : F) → NonZero o m → Least o m → Least o r → Above o c → m * m + n * n ≡ c * c → r * r ≡ 𝟙 + (n / m) * (n / m) → m * r ≡ c
   scaled-root m n c r d h k g e f = root_unique (m * r) c (mul_least K m r h k) g
-      (R.ring-from K.laws (m ∷ n ∷ c ∷ r ∷ n / m ∷ [])
+      (R.ring_from K.laws (m ∷ n ∷ c ∷ r ∷ n / m ∷ [])
       (R.◌⊗◌ (R.◌⊗◌ R.x₀ R.x₃) (R.◌⊗◌ R.x₀ R.x₃)) (R.◌⊗◌ R.x₂ R.x₂)
       (R.fact (R.◌⊗◌ R.x₀ R.x₀) (R.◌⊗◌ R.x₃ R.x₃) (R.◌⊕◌ (R.con (pos 1)) (R.◌⊗◌ R.x₄ R.x₄)) f
       (R.fact (R.◌⊕◌ (R.◌⊗◌ R.x₄ R.x₀) R.x₁) (R.◌⊗◌ R.x₄ R.x₀) R.x₁ (K.div_mul n m d)

@@ -63,8 +63,8 @@ pub fn fill<N: Number, B: Boundary<N>, T: Turn<N>>(
     from: &[T::From],
     to: &mut [T::To],
 ) -> Result<(), RowFault>
-    ensures value { B.right boundary.old → Fills (Answering N.means (B.meaning boundary.old) steps) from.now to.old result to.new }
-    ensures meaning { B.right boundary.old → row (λ x. run (B.meaning boundary.old) (plainly x)) (map reads from.now) (map writes to.old) ≡ record { ends = ending result; entries = map writes to.new } }
+    ensures value { B.right boundary.old → Fills (Answering N.means (B.meaning boundary.old) T.steps) from.now to.old result to.new }
+    ensures meaning { B.right boundary.old → row (λ x. run (B.meaning boundary.old) (T.plainly x)) (map T.reads from.now) (map T.writes to.old) ≡ record { ends = ending result; entries = map T.writes to.new } }
     ensures untouched { Untouched result to.old to.new }
     ensures stays { Stays B.right B.meaning B.model boundary.old boundary.new }
 {

@@ -4,7 +4,7 @@ use Rattle.strip.proofs.Curves.{curve-meant}
 
 pub returns : goal.returns
 returns g c = record {
-  answer = c.is-exact.ensures.0;
+  answer = c.is_exact.ensures.0;
   curve = curve_holds;
-  meaning = curve-meant g.N.Number.arith (g.met.N.Number.exactness c.is-exact.ensures.1);
+  meaning = curve-meant g.N.Number.arith (g.met.N.Number.exactness c.is_exact.ensures.1);
 }

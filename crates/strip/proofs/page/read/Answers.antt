@@ -5,42 +5,42 @@ use Rattle.strip.specs.Strip.{read_steps}
 use Rattle.strip.specs.StripMeans.{read_off, unread, read_steps-carried}
 use Rattle.strip.proofs.page.read.Goals as goal
 
-pub returns-in-err-shade : goal.returns-in-err-shade
-returns-in-err-shade g c =
+pub returns-in_err-shade : goal.returns-in_err-shade
+returns-in_err-shade g c =
     let n = g.N.Number in
     let m = g.B.Boundary.meaning c.args.boundary.now in
-    let p = err_from_is_err_and c.from-residual.result c.from-residual.ensures.1 in
-    let value : g.B.Boundary.right c.args.boundary.now → Follows n.means m (read_steps n.ops n.traced c.args.color) c.from-residual.result =
-    λ h. rw (p.1, p.2) (unread n.means m n.ops n.traced c.args.color c.in-err-shade.field-0.0 (c.in-err-shade.ensures.value h)) in
+    let p = err_from_is_err_and c.from_residual.result c.from_residual.ensures.1 in
+    let value : g.B.Boundary.right c.args.boundary.now → Follows n.means m (read_steps n.ops n.traced c.args.color) c.from_residual.result =
+    λ h. rw (p.1, p.2) (unread n.means m n.ops n.traced c.args.color c.in_err-shade.field-0.0 (c.in_err-shade.ensures.value h)) in
     record {
       value = value;
-      meaning = λ h. (read_steps-carried g.met.N.Number.hom n.traced c.args.color).carries m c.from-residual.result (value h);
-      stays = c.oklab-to-okhsl.ensures.stays;
+      meaning = λ h. (read_steps-carried g.met.N.Number.hom n.traced c.args.color).carries m c.from_residual.result (value h);
+      stays = c.oklab_to_okhsl.ensures.stays;
     }
 
-pub returns-in-err-shown : goal.returns-in-err-shown
-returns-in-err-shown g c =
+pub returns-in_err-shown : goal.returns-in_err-shown
+returns-in_err-shown g c =
     let n = g.N.Number in
     let m = g.B.Boundary.meaning c.args.boundary.now in
-    let p = err_from_is_err_and c.from-residual-in-err-shown.result c.from-residual-in-err-shown.ensures.1 in
-    let value : g.B.Boundary.right c.args.boundary.now → Follows n.means m (read_steps n.ops n.traced c.args.color) c.from-residual-in-err-shown.result =
+    let p = err_from_is_err_and c.from_residual-in_err-shown.result c.from_residual-in_err-shown.ensures.1 in
+    let value : g.B.Boundary.right c.args.boundary.now → Follows n.means m (read_steps n.ops n.traced c.args.color) c.from_residual-in_err-shown.result =
     λ h. rw (p.1, p.2)
-    (read_off n.means m n.ops n.traced c.args.color c.in-ok-shade.shade (Err c.in-err-shown.field-0.0) c.in-err-shown.ensures (c.in-ok-shade.ensures.value h)) in
+    (read_off n.means m n.ops n.traced c.args.color c.in_ok-shade.shade (Err c.in_err-shown.field-0.0) c.in_err-shown.ensures (c.in_ok-shade.ensures.value h)) in
     record {
       value = value;
-      meaning = λ h. (read_steps-carried g.met.N.Number.hom n.traced c.args.color).carries m c.from-residual-in-err-shown.result (value h);
-      stays = c.oklab-to-okhsl.ensures.stays;
+      meaning = λ h. (read_steps-carried g.met.N.Number.hom n.traced c.args.color).carries m c.from_residual-in_err-shown.result (value h);
+      stays = c.oklab_to_okhsl.ensures.stays;
     }
 
 pub returns : goal.returns
 returns g c =
     let n = g.N.Number in
     let m = g.B.Boundary.meaning c.args.boundary.now in
-    let shown = c.in-ok-shown.shown in
+    let shown = c.in_ok-shown.shown in
     let value : g.B.Boundary.right c.args.boundary.now → Follows n.means m (read_steps n.ops n.traced c.args.color) (Ok shown) =
-    λ h. read_off n.means m n.ops n.traced c.args.color c.in-ok-shade.shade (Ok shown) c.in-ok-shown.ensures (c.in-ok-shade.ensures.value h) in
+    λ h. read_off n.means m n.ops n.traced c.args.color c.in_ok-shade.shade (Ok shown) c.in_ok-shown.ensures (c.in_ok-shade.ensures.value h) in
     record {
       value = value;
       meaning = λ h. (read_steps-carried g.met.N.Number.hom n.traced c.args.color).carries m (Ok shown) (value h);
-      stays = c.oklab-to-okhsl.ensures.stays;
+      stays = c.oklab_to_okhsl.ensures.stays;
     }

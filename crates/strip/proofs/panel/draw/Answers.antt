@@ -5,30 +5,30 @@ use Rattle.strip.specs.Strip.{draw_steps}
 use Rattle.strip.specs.StripMeans.{drawn, draw_steps-carried}
 use Rattle.strip.proofs.panel.draw.Goals as goal
 
-pub returns-in-err-color : goal.returns-in-err-color
-returns-in-err-color g c =
+pub returns-in_err-color : goal.returns-in_err-color
+returns-in_err-color g c =
     let n = g.N.Number in
     let m = g.B.Boundary.meaning c.args.boundary.now in
-    let r = c.from-residual-in-err-color.result in
-    let p = err_from_is_err_and r c.from-residual-in-err-color.ensures.1 in
+    let r = c.from_residual-in_err-color.result in
+    let p = err_from_is_err_and r c.from_residual-in_err-color.ensures.1 in
     let value : g.B.Boundary.right c.args.boundary.now → Follows n.means m (draw_steps n.ops n.traced c.args.reading) r =
     λ h. rw (p.1, p.2)
-    (drawn n.means m n.ops n.traced c.args.reading c.shade.result (Err c.in-err-color.field-0.0) (sym c.in-ok-check.ensures) c.shade.ensures (c.in-err-color.ensures.value h)) in
+    (drawn n.means m n.ops n.traced c.args.reading c.shade.result (Err c.in_err-color.field-0.0) (sym c.in_ok-check.ensures) c.shade.ensures (c.in_err-color.ensures.value h)) in
     record {
       value = value;
       meaning = λ h. (draw_steps-carried g.met.N.Number.hom n.traced c.args.reading).carries m r (value h);
-      stays = c.okhsl-to-oklab.ensures.stays;
+      stays = c.okhsl_to_oklab.ensures.stays;
     }
 
 pub returns : goal.returns
 returns g c =
     let n = g.N.Number in
     let m = g.B.Boundary.meaning c.args.boundary.now in
-    let color = c.in-ok-color.color in
+    let color = c.in_ok-color.color in
     let value : g.B.Boundary.right c.args.boundary.now → Follows n.means m (draw_steps n.ops n.traced c.args.reading) (Ok color) =
-    λ h. drawn n.means m n.ops n.traced c.args.reading c.shade.result (Ok color) (sym c.in-ok-check.ensures) c.shade.ensures (c.in-ok-color.ensures.value h) in
+    λ h. drawn n.means m n.ops n.traced c.args.reading c.shade.result (Ok color) (sym c.in_ok-check.ensures) c.shade.ensures (c.in_ok-color.ensures.value h) in
     record {
       value = value;
       meaning = λ h. (draw_steps-carried g.met.N.Number.hom n.traced c.args.reading).carries m (Ok color) (value h);
-      stays = c.okhsl-to-oklab.ensures.stays;
+      stays = c.okhsl_to_oklab.ensures.stays;
     }

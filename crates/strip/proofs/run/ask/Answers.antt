@@ -6,15 +6,15 @@ use Rattle.strip.specs.Entries.{ask_query}
 use Rattle.strip.specs.StripMeans.{asked_plain}
 use Rattle.strip.proofs.run.ask.Goals as goal
 
-pub returns-in-err-v : goal.returns-in-err-v
-returns-in-err-v g c =
+pub returns-in_err-v : goal.returns-in_err-v
+returns-in_err-v g c =
     let n = g.N.Number in
     let m = g.B.Boundary.meaning c.args.boundary.now in
-    let p = err_from_is_err_and c.from-residual.result c.from-residual.ensures.1 in
+    let p = err_from_is_err_and c.from_residual.result c.from_residual.ensures.1 in
     record {
       value = λ h.
           subst (Follows n.means m (ask_query n.ops n.traced n.plain n.back c.args.lightness c.args.a c.args.b)) (sym (p.1 ∙ ap (λ (f : NumberFault). Err f) p.2))
-          (asked_plain n.means m n.ops n.traced n.plain n.back c.from-plain.ensures c.from-plain-2.ensures c.from-plain-3.ensures (Err c.in-err-v.field-0.0) (c.in-err-v.ensures.gives h));
+          (asked_plain n.means m n.ops n.traced n.plain n.back c.from_plain.ensures c.from_plain-2.ensures c.from_plain-3.ensures (Err c.in_err-v.field-0.0) (c.in_err-v.ensures.gives h));
       stays = c.query.ensures.stays;
     }
 
@@ -24,7 +24,7 @@ returns g c =
     let m = g.B.Boundary.meaning c.args.boundary.now in
     record {
       value = λ h.
-          rw (c.to-plain.ensures, c.to-plain-2.ensures, c.to-plain-3.ensures)
-          (asked_plain n.means m n.ops n.traced n.plain n.back c.from-plain.ensures c.from-plain-2.ensures c.from-plain-3.ensures (Ok c.in-ok-v.v) (c.in-ok-v.ensures.gives h));
+          rw (c.to_plain.ensures, c.to_plain-2.ensures, c.to_plain-3.ensures)
+          (asked_plain n.means m n.ops n.traced n.plain n.back c.from_plain.ensures c.from_plain-2.ensures c.from_plain-3.ensures (Ok c.in_ok-v.v) (c.in_ok-v.ensures.gives h));
       stays = c.query.ensures.stays;
     }

@@ -3,6 +3,6 @@ use Rattle.strip.proofs.RowTrips.{rows_come_home}
 
 pub returns : goal.returns
 returns g c = record {
-  answer = c.comes-home.ensures.answer;
-  trip = rows_come_home g.N.Number.arith c.comes-home.ensures.trip;
+  answer = c.comes_home.ensures.answer;
+  trip = rows_come_home g.N.Number.arith c.comes_home.ensures.trip;
 }

@@ -6,13 +6,13 @@ use Rattle.strip.specs.Strip.{draw_steps}
 use Rattle.strip.specs.StripMeans.{follows_on}
 use Rattle.strip.proofs.panel.PanelTurn.turn.Goals as goal
 
-pub returns-in-err-color : goal.returns-in-err-color
-returns-in-err-color g c =
+pub returns-in_err-color : goal.returns-in_err-color
+returns-in_err-color g c =
     let n = g.N.Number in
     let m = g.B.Boundary.meaning c.args.boundary.now in
-    let p = err_from_is_err_and c.from-residual.result c.from-residual.ensures.1 in
+    let p = err_from_is_err_and c.from_residual.result c.from_residual.ensures.1 in
     record {
-      value = λ h. rw (p.1, p.2) (follows_on n.means m (in_plain (map_oklab n.plain)) (draw_steps n.ops n.traced c.args.x) (Err c.in-err-color.field-0.0) (c.in-err-color.ensures.value h));
+      value = λ h. rw (p.1, p.2) (follows_on n.means m (in_plain (map_oklab n.plain)) (draw_steps n.ops n.traced c.args.x) (Err c.in_err-color.field-0.0) (c.in_err-color.ensures.value h));
       stays = c.draw.ensures.stays;
     }
 
@@ -21,7 +21,7 @@ returns g c =
     let n = g.N.Number in
     let m = g.B.Boundary.meaning c.args.boundary.now in
     record {
-      value = λ h. rw (c.to-plain.ensures, c.to-plain-2.ensures, c.to-plain-3.ensures)
-          (follows_on n.means m (in_plain (map_oklab n.plain)) (draw_steps n.ops n.traced c.args.x) (Ok c.in-ok-color.color) (c.in-ok-color.ensures.value h));
+      value = λ h. rw (c.to_plain.ensures, c.to_plain-2.ensures, c.to_plain-3.ensures)
+          (follows_on n.means m (in_plain (map_oklab n.plain)) (draw_steps n.ops n.traced c.args.x) (Ok c.in_ok-color.color) (c.in_ok-color.ensures.value h));
       stays = c.draw.ensures.stays;
     }
