@@ -58,7 +58,7 @@ fn put_color(text: &mut String, color: Oklab<PlainFraction>) -> fmt::Result
     let l = Fraction::from_plain(color.l);
     let a = Fraction::from_plain(color.a);
     let b = Fraction::from_plain(color.b);
-    writeln!(text, "{l} {a} {b}")
+    Ok(writeln!(text, "{l} {a} {b}")?)
 }
 
 // Appends how a line ends: a colour, or the number of its refusal.
@@ -69,7 +69,7 @@ fn put_answer(text: &mut String, answer: Result<Oklab<PlainFraction>, RowFault>)
         Ok(color) => put_color(text, color),
         Err(fault) => {
             let number = fault.refusal().number;
-            writeln!(text, "refused {number}")
+            Ok(writeln!(text, "refused {number}")?)
         }
     }
 }
@@ -78,7 +78,7 @@ fn put_answer(text: &mut String, answer: Result<Oklab<PlainFraction>, RowFault>)
 fn put_start(text: &mut String, number: u32, i: usize, valve: u8) -> fmt::Result
     ensures { OnOk result (string_bytes text.new ≡ string_bytes text.old ++ start_of number i valve) }
 {
-    write!(text, "{number} {i} {valve} ")
+    Ok(write!(text, "{number} {i} {valve} ")?)
 }
 
 // Appends the line of one reading.
@@ -119,7 +119,7 @@ fn put_refusal(text: &mut String, fault: BlockFault, place: u64) -> fmt::Result
     ensures { OnOk result (string_bytes text.new ≡ string_bytes text.old ++ refusal_of fault place) }
 {
     let number = fault.refusal().number;
-    writeln!(text, "refused {number} at {place}")
+    Ok(writeln!(text, "refused {number} at {place}")?)
 }
 
 fn half() -> Fraction

@@ -25,14 +25,14 @@ lines_shown bs place h n out rest answer head count entries =
 pub returns-in-Ok-read : goal.returns-in-Ok-read
 returns-in-Ok-read c =
     let read = c.in-Ok-read.ensures in
-    IfOk-weaker c.put-row.result _ _
+    IfOk-weaker c.put_row.result _ _
     (λ u e.
     e
     ∙ ap (λ t. string_bytes c.args.text.now ++ t)
     (lines_shown c.args.bytes.now c.args.place c.in-Ok-read.head c.from.result c.read.new.out _ read.answer read.head
     c.from.ensures read.entries))
-    c.put-row.ensures
+    c.put_row.ensures
 
-pub put-row-requires : goal.put-row-requires
-put-row-requires c =
+pub put_row-requires : goal.put_row-requires
+put_row-requires c =
     listed-triangle c.half.result c.half-2.result c.half.ensures c.half-2.ensures c.in-Ok.boundary c.in-Ok.ensures.which

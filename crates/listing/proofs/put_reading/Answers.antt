@@ -8,11 +8,11 @@ use Rattle.listing.proofs.put_reading.Goals as goal
 pub returns : goal.returns
 returns c =
     record {
-      text = IfOk-weaker c.put-answer.result _ _
+      text = IfOk-weaker c.put_answer.result _ _
           (λ u e.
-          line_text (string_bytes c.args.text.now) (string_bytes c.put-start.new.text) (string_bytes c.put-answer.new.text)
-          (start_of c.args.number c.args.i c.args.reading.valve) (row_text c.draw-alone-answer.result) (color_text (drawn c.args.reading))
-          c.in-ok-put-start.ensures e c.draw-alone-answer.ensures.text)
-          c.put-answer.ensures;
-      stays = c.draw-alone-answer.ensures.stays;
+          line_text (string_bytes c.args.text.now) (string_bytes c.put_start.new.text) (string_bytes c.put_answer.new.text)
+          (start_of c.args.number c.args.i c.args.reading.valve) (row_text c.draw_alone-answer.result) (color_text (drawn c.args.reading))
+          c.in_ok-put_start.ensures e c.draw_alone-answer.ensures.text)
+          c.put_answer.ensures;
+      stays = c.draw_alone-answer.ensures.stays;
     }

@@ -18,10 +18,10 @@ more number row i old new h e =
 
 pub loop-i-preserved : goal.loop-i-preserved
 loop-i-preserved c = (
-  more c.args.number c.args.row.now c.loop-i.i (string_bytes c.loop-i.text) (string_bytes c.put-reading.new.text)
-      c.loop-i-test.true c.in-ok-put-reading.ensures.text
+  more c.args.number c.args.row.now c.loop-i.i (string_bytes c.loop-i.text) (string_bytes c.put_reading.new.text)
+      c.loop-i-test.true c.in_ok-put_reading.ensures.text
       ∙ c.loop-i.invariant.0,
-  c.put-reading.ensures.stays,
+  c.put_reading.ensures.stays,
 )
 
 pub returns : goal.returns
