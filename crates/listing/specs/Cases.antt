@@ -1,7 +1,7 @@
 -- The worked cases of the library, in one table: what is computed, and what comes out.
 use Rattle.std.specs.Prelude.{◌≡◌, ℕ, ◌-◌, List, [], ◌∷◌, replicate, pos, Ok, Err, codes, decimal, Result}
 use Rattle.std.specs.List.{AllByRecursion as All}
-use Rattle.number.specs.Meaning.{Meaning, lost, fraction, float}
+use Rattle.number.specs.Meaning.{Meaning}
 use Rattle.fraction.specs.Bound.{R}
 use Rattle.fraction.specs.Bounded.{arithmetic, ratio}
 use Rattle.fault.specs.Refusals.{of_block}

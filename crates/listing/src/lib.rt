@@ -1,4 +1,6 @@
 // The text of the listing, block by block.
+#![tactic(auto)]
+
 ghost use Rattle.std.specs.Prelude.{◌≡◌, ◌++◌, pos, string_bytes, OnOk};
 ghost use Rattle.boundary.specs.Triangles.{triangle_meaning};
 ghost use Rattle.fraction.specs.Bounded.{arithmetic, ratio};

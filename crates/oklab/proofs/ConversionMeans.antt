@@ -1,6 +1,5 @@
 -- Conversions that ask no boundary: what an answer means depends only on what the colour means.
 use Rattle.std.proofs.Common.{◌≡◌, ℕ, [], ◌∷◌, pos, Option, refl, ap, ◌∙◌}
-use Rattle.gamut.specs.declared.direction.Direction.{Direction}
 use Rattle.gamut.specs.declared.oklab.Oklab.{Oklab}
 use Rattle.gamut.specs.declared.rgb.LinSrgb.{LinSrgb}
 use Rattle.gamut.specs.declared.xyz.Xyz.{Xyz}

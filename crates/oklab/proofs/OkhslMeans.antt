@@ -2,7 +2,7 @@
 use Rattle.std.proofs.Common.{◌≡◌, ℕ, ◌&&◌, [], ◌∷◌, pos, Option, refl, ap, ◌∙◌}
 use Rattle.gamut.specs.declared.chroma.ChromaValues.{ChromaValues}
 use Rattle.gamut.specs.declared.oklab.Oklab.{Oklab}
-use Rattle.gamut.specs.Curve.{chroma, saturation}
+use Rattle.gamut.specs.Curve.{chroma}
 use Rattle.gamut.specs.Maps.{map_oklab, map_values}
 use Rattle.gamut.specs.Toe.{toe_inv}
 use Rattle.gamut.proofs.CurveMeans.{map_cond, chroma_means, saturation-means}

@@ -1,5 +1,5 @@
 -- Oklab to Okhsv and back: a hue's part of sRGB as a triangle with a curved upper side, stretched to a square.
-use Rattle.std.specs.Prelude.{ℕ, Bool, cond, pos, Err, Option, Result}
+use Rattle.std.specs.Prelude.{ℕ, cond, pos, Err, Option, Result}
 use Rattle.fault.specs.declared.faults.NumberFault.{NumberFault}
 use Rattle.fault.specs.declared.faults.NumberFault.TheVariants.{Range, Direction, Lost}
 use Rattle.gamut.specs.declared.direction.Direction.{Direction as Hue}

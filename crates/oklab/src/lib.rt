@@ -1,4 +1,6 @@
 // The colour spaces of the Oklab family and their conversions.
+#![tactic(auto)]
+
 mod checks;
 mod okhsl;
 mod okhsv;

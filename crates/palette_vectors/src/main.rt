@@ -2,6 +2,8 @@
 // patterns of its numbers, and those of its answer, as `cusp 3f19999a 3f4ccccd = 3f3b7fb6 3e3e0b21`, or the number of its
 // refusal, as `okhsl>oklab 3f19999a 3f4ccccd 3f800000 00000001 = refused 7`. Prints the lines that the library differs
 // from, and how many it checked.
+#![tactic(auto)]
+
 mod conversion;
 mod row;
 

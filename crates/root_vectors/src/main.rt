@@ -1,6 +1,8 @@
 // Replays a table of exact roots from the standard input, a line for each: the root, the bit pattern
 // of an `f32` and that of its root, as `sqrt 40800000 = 40000000`. Prints the lines that the
 // library's root differs from, and how many it checked.
+#![tactic(auto)]
+
 use std::io::{BufRead, BufReader};
 
 #[derive(Clone, Copy, Drop)]

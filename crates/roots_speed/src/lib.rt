@@ -1,5 +1,7 @@
 // The roots for Rust to call: loops that `compare/speed/speed.rs` times beside Rust's own, each with a
 // sum of the results, and single calls, which `compare/speed/all.rs` holds to Rust's.
+#![tactic(auto)]
+
 ghost use Rattle.std.specs.Prelude.{◌≡◌, ◌+◌, ◌*◌, ◌<◌, ◌≤◌, from_bits, to_bits};
 ghost use Rattle.std.specs.Float.{sqrt, binary32};
 ghost use Rattle.roots.specs.Roots.{cbrt};

@@ -1,4 +1,6 @@
 // The strip: what the panel draws and the page reads, and what is proved of the two together.
+#![tactic(auto)]
+
 mod commissioning;
 mod curve;
 mod indication;

@@ -1,5 +1,7 @@
 // Commissions a panel and a page on the blocks of a valve log, over fractions: each block's readings are drawn with the panel's
 // stack and read back with the page's, and then drawn and read again by a replay on the panel's stack, with a forget between.
+#![tactic(auto)]
+
 ghost use Rattle.std.specs.Prelude.{◌≤◌, IfOk};
 
 use boundary::{Margin, Memo, Triangle};

@@ -1,4 +1,6 @@
 // Lists the blocks of a valve log from the standard input: a line for each reading, or a line for a refused block.
+#![tactic(auto)]
+
 ghost use Rattle.std.specs.Prelude.{◌≤◌, IfOk};
 
 use listing::put_block;

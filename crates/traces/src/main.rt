@@ -1,5 +1,7 @@
 // Refusals with the traces that they hold, over traced kinds: each line names a call, the refusal, and the cause and stage of the
 // first spoiled number.
+#![tactic(auto)]
+
 use boundary::Srgb;
 use fault::NumberFault;
 use fraction::Fraction;
