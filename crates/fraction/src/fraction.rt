@@ -6,7 +6,7 @@ ghost use Rattle.fraction.specs.Bound.{R};
 mod arithmetic;
 mod literal;
 mod made;
-mod number;
+mod operations;
 mod order;
 mod root;
 mod show;

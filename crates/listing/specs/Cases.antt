@@ -1,6 +1,6 @@
 -- The worked cases of the library, in one table: what is computed, and what comes out.
 use Rattle.std.specs.Prelude.{◌≡◌, ℕ, ◌-◌, List, [], ◌∷◌, replicate, pos, Ok, Err, codes, decimal, Result}
-use Rattle.std.specs.List.{AllByRecursion as All}
+use Rattle.std.specs.List.{AllByRecursion}
 use Rattle.number.specs.Meaning.{Meaning}
 use Rattle.fraction.specs.Bound.{R}
 use Rattle.fraction.specs.Bounded.{arithmetic, ratio}
@@ -45,4 +45,4 @@ cases =
     ∷ []
 
 abbrev pub CasesHold : Type 0
-CasesHold = All (λ c. c.0 ≡ c.1) cases
+CasesHold = AllByRecursion (λ c. c.0 ≡ c.1) cases

@@ -1,5 +1,5 @@
 use Rattle.fraction.specs.Packs.{packed}
-use Rattle.fraction.proofs.fraction.number.FractionNumber.max.Goals as goal
+use Rattle.fraction.proofs.fraction.operations.FractionNumber.max.Goals as goal
 
 pub returns : goal.returns
 returns c = packed _ c.greater.ensures

@@ -1,5 +1,5 @@
 use Rattle.fraction.specs.Packs.{packed}
-use Rattle.fraction.proofs.fraction.number.FractionNumber.sqrt.Goals as goal
+use Rattle.fraction.proofs.fraction.operations.FractionNumber.sqrt.Goals as goal
 
 pub returns : goal.returns
 returns c = packed _ c.square_root.ensures

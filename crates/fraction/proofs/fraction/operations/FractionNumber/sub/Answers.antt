@@ -1,5 +1,5 @@
 use Rattle.fraction.specs.Packs.{packed}
-use Rattle.fraction.proofs.fraction.number.FractionNumber.sub.Goals as goal
+use Rattle.fraction.proofs.fraction.operations.FractionNumber.sub.Goals as goal
 
 pub returns : goal.returns
 returns c = packed _ c.minus.ensures
