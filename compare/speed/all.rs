@@ -1,7 +1,7 @@
 // Holds the proved roots to Rust's on every f32 that is not negative, and on one in sixteen of the
 // others: the square root to the processor's, the cube root to that of f64, rounded. Whole roots are
 // held to their definition next to powers and at random numbers. All not-a-numbers count as one.
-// Run: rt staticlib roots_speed && rustc -O compare/speed/all.rs -L target/staticlib -l static=roots_speed -o target/all && target/all
+// Run: (cd crates/roots_speed && rt lib) && mkdir -p target && rustc -O compare/speed/all.rs -L crates/roots_speed/out -l static=roots_speed -o target/all && target/all
 unsafe extern "C" {
     fn rattle_sqrt_of(pattern: u32) -> u32;
     fn rattle_cbrt_of(pattern: u32) -> u32;

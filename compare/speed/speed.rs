@@ -1,6 +1,6 @@
 // Times the proved roots beside Rust's own, in one run over the same inputs; the sums of the results
 // must be equal wherever Rust's root is correctly rounded.
-// Run: rt staticlib roots_speed && rustc -O compare/speed/speed.rs -L target/staticlib -l static=roots_speed -o target/speed && target/speed
+// Run: (cd crates/roots_speed && rt lib) && mkdir -p target && rustc -O compare/speed/speed.rs -L crates/roots_speed/out -l static=roots_speed -o target/speed && target/speed
 use std::hint::black_box;
 use std::time::Instant;
 

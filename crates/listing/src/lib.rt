@@ -15,7 +15,6 @@ use fraction::{Fraction, PlainFraction};
 use gamut::oklab::Oklab;
 use number::Number;
 use std::fmt;
-use std::fmt::Write as _;
 use strip::panel::draw_row;
 use valve_log::Reading;
 

@@ -21,12 +21,12 @@ abs_zero : (z : ℤ) → nat_abs z ≡ 0 → z ≡ pos 0
 abs_zero (pos n) e = ap pos e
 abs_zero (negsuc n) e = absurd (N.suc-ne-zero n e)
 
-zero_of : (z : ℤ) (d : ℕ) → 0 < d → z *ℤ pos d ≡ pos 0 → z ≡ pos 0
-zero_of z d h e = abs_zero z (N.eq_of_mul-eq-mul_right d h (nat_abs z) 0 (sym (abs_product z (pos d)) ∙ ap nat_abs e ∙ sym (N.zero-mul d)))
+zero_of_lem : (z : ℤ) (d : ℕ) → 0 < d → z *ℤ pos d ≡ pos 0 → z ≡ pos 0
+zero_of_lem z d h e = abs_zero z (N.eq_of_mul-eq-mul_right d h (nat_abs z) 0 (sym (abs_product z (pos d)) ∙ ap nat_abs e ∙ sym (N.zero-mul d)))
 
 cancel : (a b : ℤ) (d : ℕ) → 0 < d → a *ℤ pos d ≡ b *ℤ pos d → a ≡ b
 cancel a b d h e = ring_by ℤ-ring (a ∷ b ∷ []) x₀ x₁ (con (pos 1)) (x₀ ⊖ x₁) (con (pos 0))
-    (zero_of (a +ℤ neg_ℤ b) d h (ring_by ℤ-ring (a ∷ b ∷ pos d ∷ []) ((x₀ ⊖ x₁) ⊗ x₂) (con (pos 0)) (con (pos 1)) (x₀ ⊗ x₂) (x₁ ⊗ x₂) e refl)) refl
+    (zero_of_lem (a +ℤ neg_ℤ b) d h (ring_by ℤ-ring (a ∷ b ∷ pos d ∷ []) ((x₀ ⊖ x₁) ⊗ x₂) (con (pos 0)) (con (pos 1)) (x₀ ⊗ x₂) (x₁ ⊗ x₂) e refl)) refl
 
 pub ≈-trans : (x y z : Ratio) → x ≈ y → y ≈ z → x ≈ z
 ≈-trans x y z p q = cancel (x.num *ℤ pos z.den) (z.num *ℤ pos x.den) y.den y.above

@@ -255,4 +255,5 @@ special_roots f = record {
   below_zero = λ m e. (refl, refl);
   not_numbers = (refl, refl);
   library = sqrt_of_fits f;
+  library_zeros = λ s e. refl;
 }

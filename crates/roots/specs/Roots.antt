@@ -1,5 +1,5 @@
 -- What it is to be the nearest number to an exact root, stated in whole numbers, and the cube root of a float. Assumes nothing.
-use Rattle.std.specs.Prelude.{◌≡◌, ℕ, suc, ◌+◌, ◌*◌, ◌/◌, ◌^◌, ◌<◌, Bool, true, false, T, ℤ, Float}
+use Rattle.std.specs.Prelude.{◌≡◌, ℕ, suc, ◌+◌, ◌*◌, ◌/◌, ◌^◌, ◌<◌, Bool, true, false, T, ℤ, pos, Float}
 use Rattle.std.specs.Float.{Format, nan, inf, fin}
 use Rattle.std.specs.Float.Ieee.{prec, low, up, down, fits}
 use Rattle.std.specs.Float.Ieee.Exact.{HasValue}
@@ -76,3 +76,4 @@ pub record SpecialRoots (f : Format) : Type 0 where
   pub below_zero : (m : ℕ) (e : ℤ) → (Floats.sqrt f (fin true (suc m) e) ≡ nan) × (Floats.sqrt f (inf true) ≡ nan)
   pub not_numbers : (Floats.sqrt f nan ≡ nan) × (cbrt f nan ≡ nan)
   pub library : (x : Float) → T (fits f x) → Floats.sqrt f x ≡ sqrt f x
+  pub library_zeros : (s : Bool) (e : ℤ) → Floats.sqrt f (fin s 0 e) ≡ fin s 0 (pos 0)
