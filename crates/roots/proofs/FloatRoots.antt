@@ -12,7 +12,7 @@ use lib.Ieee.Order.{drop, kept}
 use lib.Ieee.Positive.{positive}
 use Rattle.std.specs.Float as Floats
 use Rattle.roots.specs.Digits.{rounded, root_twice}
-use Rattle.roots.specs.Roots.{Held, Nearest, Root, cbrt, sqrt, FloatsHeld, NearestUnique, RootsUnique, RootsNearest, SpecialRoots}
+use Rattle.roots.specs.Roots.{Held, Nearest, Root, cbrt, sqrt_as_written, FloatsHeld, NearestUnique, RootsUnique, RootsNearest, SpecialRoots}
 use Rattle.roots.proofs.Powers.{power_at, square, power_of_power, Twice, twice_of_whole, root_twice_lem}
 use Rattle.roots.proofs.NearestRoot.{is_nearest}
 use Rattle.roots.proofs.Patterns.{bits_of_value}
@@ -240,15 +240,15 @@ zero_exponent f s (pos zero) h = refl
 zero_exponent f s (pos (suc k)) h = absurd (omega (arith, lib.Dec.eqb→eq (2 ^ suc k * 1) 1 h))
 zero_exponent f s (negsuc k) h = absurd (omega (arith, lib.Dec.eqb→eq (1 * 2 ^ suc k) 1 h))
 
-sqrt_of_fits : (f : Format) (x : Float) → T (fits f x) → Floats.sqrt f x ≡ sqrt f x
-unfolding Floats.sqrt sqrt
+sqrt_of_fits : (f : Format) (x : Float) → T (fits f x) → Floats.sqrt f x ≡ sqrt_as_written f x
+unfolding Floats.sqrt sqrt_as_written
 sqrt_of_fits f nan h = refl
 sqrt_of_fits f (inf s) h = refl
 sqrt_of_fits f (fin s zero e) h = ap (fin s 0) (zero_exponent f s e h)
 sqrt_of_fits f (fin s (suc m) e) h = refl
 
 pub special_roots : (f : Format) → SpecialRoots f
-unfolding Floats.sqrt sqrt cbrt
+unfolding Floats.sqrt sqrt_as_written cbrt
 special_roots f = record {
   zeros = λ s e. (refl, refl);
   infinities = λ s. (refl, refl);

@@ -47,9 +47,9 @@ cbrt f (fin s (suc m) e) = rounded 24 f s (root_twice 3 (suc m * up e * 2 ^ 6813
 
 -- The square root of each way to write a float. It is the library's, save at a zero: here it keeps how the zero is written, there it is written as
 -- the formats do. Of the floats of a format both are the same.
-unfoldable pub sqrt : Format → Float → Float
-sqrt f (fin s ℕ.zero e) = fin s 0 e
-sqrt f x = Floats.sqrt f x
+unfoldable pub sqrt_as_written : Format → Float → Float
+sqrt_as_written f (fin s ℕ.zero e) = fin s 0 e
+sqrt_as_written f x = Floats.sqrt f x
 
 -- ---- the laws
 
@@ -71,9 +71,11 @@ RootsNearest = (f : Format) (x : Float) → T (fits f x) → T (positive x) → 
 
 -- the roots of all else: zeros and infinities keep their value, but the square root of a value below zero is not a number
 pub record SpecialRoots (f : Format) : Type 0 where
-  pub zeros : (s : Bool) (e : ℤ) → (sqrt f (fin s 0 e) ≡ fin s 0 e) × (cbrt f (fin s 0 e) ≡ fin s 0 e)
+  pub zeros : (s : Bool) (e : ℤ) → (sqrt_as_written f (fin s 0 e) ≡ fin s 0 e) × (cbrt f (fin s 0 e) ≡ fin s 0 e)
   pub infinities : (s : Bool) → (Floats.sqrt f (inf false) ≡ inf false) × (cbrt f (inf s) ≡ inf s)
   pub below_zero : (m : ℕ) (e : ℤ) → (Floats.sqrt f (fin true (suc m) e) ≡ nan) × (Floats.sqrt f (inf true) ≡ nan)
   pub not_numbers : (Floats.sqrt f nan ≡ nan) × (cbrt f nan ≡ nan)
-  pub library : (x : Float) → T (fits f x) → Floats.sqrt f x ≡ sqrt f x
+  -- for every float of the format the library's root is the one that `zeros` speaks of
+  pub library : (x : Float) → T (fits f x) → Floats.sqrt f x ≡ sqrt_as_written f x
+  -- and at any zero it is the zero of that sign, written as the formats do
   pub library_zeros : (s : Bool) (e : ℤ) → Floats.sqrt f (fin s 0 e) ≡ fin s 0 (pos 0)
