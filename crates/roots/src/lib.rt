@@ -11,6 +11,8 @@ ghost use Rattle.std.specs.Float.Ieee.Positive.{positive};
 ghost use Rattle.std.specs.Float as Floats;
 ghost use Rattle.roots.specs.Roots.{Root, Signed, cbrt, FloatsHeld, NearestUnique, RootsUnique, RootsNearest, SpecialRoots};
 
+use guess::Leading;
+
 /// The square root: the `f32` nearest to the exact root. Zeros and infinity are their own roots; the
 /// root of a value below 0 is not a number.
 pub fn sqrt_f32(x: f32) -> f32
@@ -27,7 +29,7 @@ pub fn sqrt_f32(x: f32) -> f32
     // A root of 25 digits, whose last one tells how to round: n is even, so no root lies in the middle.
     let (m, j) = pattern::significand(b);
     let n = m << (25 + j % 2);
-    let q = whole::square_root(n, guess::square_root(m << 29, j % 2, 24));
+    let q = whole::square_root(n, Leading { digits: m << 29 }.square_root(j % 2, 24));
     pattern::rounded(q, j / 2 + 51)
 }
 
@@ -47,7 +49,7 @@ pub fn cbrt_f32(x: f32) -> f32
     // As in `sqrt_f32`.
     let (m, j) = pattern::significand(b);
     let n = (m as u128) << (49 + j % 3);
-    let q = whole::cube_root(n, guess::cube_root(m << 29, j % 3, 24));
+    let q = whole::cube_root(n, Leading { digits: m << 29 }.cube_root(j % 3, 24));
     pattern::rounded(q, j / 3 + 76).copysign(x)
 }
 
@@ -59,7 +61,7 @@ pub fn whole_sqrt(n: u64) -> u64
         return 0;
     }
     let (m, e) = pattern::leading(n);
-    whole::square_root(n, guess::square_root(m, e % 2, e / 2))
+    whole::square_root(n, m.square_root(e % 2, e / 2))
 }
 
 /// The whole part of the cube root.
@@ -70,7 +72,7 @@ pub fn whole_cbrt(n: u64) -> u64
         return 0;
     }
     let (m, e) = pattern::leading(n);
-    whole::cube_root(n as u128, guess::cube_root(m, e % 3, e / 3))
+    whole::cube_root(n as u128, m.cube_root(e % 3, e / 3))
 }
 
 /// What "nearest" means above, for every format: each float is among those that are compared, only

@@ -4,6 +4,8 @@ ghost use Rattle.std.specs.Float.{binary32};
 ghost use Rattle.std.specs.Float.Ieee.{units};
 ghost use Rattle.roots.specs.Digits.{steps};
 
+use crate::guess::Leading;
+
 // The `f32` of pattern b is m * 2^(j - 173), with m of exactly 24 digits.
 pub(crate) fn significand(b: u32) -> (u64, u64)
     requires { (0 < b) × (b < 255 * 2 ^ 23) }
@@ -28,11 +30,12 @@ pub(crate) fn rounded(q: u64, e: u64) -> f32
     f32::from_bits((e * 0x80_0000 + (q + 1) / 2) as u32)
 }
 
-// n is m * 2^(e - 52), but for what lies below m's 53 digits.
-pub(crate) fn leading(n: u64) -> (u64, u64)
+// n is m * 2^e, but for what lies below m's 53 digits.
+pub(crate) fn leading(n: u64) -> (Leading, u64)
     requires { 0 < n }
-    ensures { (2 ^ 52 ≤ result.0) × (result.0 < 2 ^ 53) × (result.1 < 64) }
+    ensures { result.1 < 64 }
 {
     let shift = n.leading_zeros();
-    ((n << shift) >> 11, 63 - shift as u64)
+    let digits = (n << shift) >> 11;
+    (Leading { digits }, 63 - shift as u64)
 }
