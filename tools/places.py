@@ -108,7 +108,7 @@ def by_line(pattern):
 
 def numbers_for_kinds():
     """1: a flag with a value beside it, and numbers for kinds, refusals or "none"."""
-    kinds = r'\blost: bool\b|\(u8, u8\)|\b(valve|number|degree|kind|cause|stage): u8\b|, u8>|-> u8 *$|-> \(u8|\bd == 0\b|^\s*0,$'
+    kinds = r'\blost: bool\b|\(u8, u8\)|\b(valve|number|degree|kind|cause|stage): u8\b|, u8>|-> u8 *$|-> \(u8|^\s*0,$'
     zeros = by_line(r'^\s*0,$')
     rest = [place for place in by_line(kinds) if place not in zeros]
     # a table in which 0 says "none" is one place
@@ -135,11 +135,24 @@ def index_loops():
     return by_line(r'\bfor \w+ in \d+\.\.|\bwhile\b|\bloop \{')
 
 
+def enclosing(file, line):
+    """The function in which a line stands."""
+    names = [f for f in functions(file, open(file, encoding='utf-8').read()) if f.line <= line]
+    return max(names, key=lambda f: f.line).name if names else ''
+
+
 def by_hand():
     """4: equality, copying, conversion and printing written by hand."""
-    found = by_line(r'\bNone => (None|0)\b|\bSome\((\w+)\) => Some\(\2\)|\bOk\((\w+)\) => Ok\(\3\)|\b(Ok|Err)\(_\) => None'
+    lines = by_line(r'\bNone => (None|0)\b|\bSome\((\w+)\) => Some\(\2\)|\bOk\((\w+)\) => Ok\(\3\)|\b(Ok|Err)\(_\) => None'
                     r'|=> "|/ 256\b|% 256\b|\* 256\b|/ 16777216|\.(\w+) == \w+\.\5\b|\bis_same\(self\.'
                     r'|^\s*match u?\w+::from_str_radix')
+    found = []
+    for place in lines:
+        file, line, text = place.split(':', 2)
+        where = f'{file}: {enclosing(file, int(line))}'
+        # one place for each function, however many lines it takes there
+        if not any(known.startswith(where + ':') for known in found):
+            found.append(f'{where}:{text}')
     for file, text in sources():
         code = code_of(text)
         for m in re.finditer(r'\b[A-Z]\w* \{', code):
