@@ -35,6 +35,27 @@ impl<N: Number> Traced<N> {
     {
         self.value
     }
+
+    // The result of an operation on one value, with the fault of its operand.
+    fn followed<F: FnOnce(N) -> N>(self, operation: F, cause: Cause) -> Traced<N>
+        requires { F.pre operation self.value }
+        ensures { (value : N) × F.post operation self.value value × (result ≡ result_of N.ops value self.fault None cause) }
+    {
+        result(operation(self.value), self.fault, None, cause)
+    }
+
+    // The result of an operation on two values, with the faults of both operands.
+    fn joined<F: FnOnce(N, N) -> N>(self, other: Traced<N>, operation: F, cause: Cause) -> Traced<N>
+        requires { F.pre operation self.value other.value }
+        ensures { (value : N) × F.post operation self.value other.value value × (result ≡ result_of N.ops value self.fault other.fault cause) }
+    {
+        result(
+            operation(self.value, other.value),
+            self.fault,
+            other.fault,
+            cause,
+        )
+    }
 }
 
 // A result with the faults of its operands and the cause that a new fault has.
@@ -99,30 +120,15 @@ impl<N: Number> Number for Traced<N> {
     ghost forms = { λ p. ⊎_elim (λ e. inl (λ i. record { value = e i; fault = p.fault })) inr (N.Number.forms p.value) };
 
     fn add(self, other: Traced<N>) -> Traced<N> {
-        result(
-            self.value.add(other.value),
-            self.fault,
-            other.fault,
-            Cause::Other,
-        )
+        self.joined(other, N::add, Cause::Other)
     }
 
     fn sub(self, other: Traced<N>) -> Traced<N> {
-        result(
-            self.value.sub(other.value),
-            self.fault,
-            other.fault,
-            Cause::Other,
-        )
+        self.joined(other, N::sub, Cause::Other)
     }
 
     fn mul(self, other: Traced<N>) -> Traced<N> {
-        result(
-            self.value.mul(other.value),
-            self.fault,
-            other.fault,
-            Cause::Other,
-        )
+        self.joined(other, N::mul, Cause::Other)
     }
 
     fn div(self, other: Traced<N>) -> Traced<N> {
@@ -131,45 +137,35 @@ impl<N: Number> Number for Traced<N> {
         } else {
             Cause::Other
         };
-        result(self.value.div(other.value), self.fault, other.fault, cause)
+        self.joined(other, N::div, cause)
     }
 
     fn neg(self) -> Traced<N> {
-        result(self.value.neg(), self.fault, None, Cause::Other)
+        self.followed(N::neg, Cause::Other)
     }
 
     fn min(self, other: Traced<N>) -> Traced<N> {
-        result(
-            self.value.min(other.value),
-            self.fault,
-            other.fault,
-            Cause::Other,
-        )
+        self.joined(other, N::min, Cause::Other)
     }
 
     fn max(self, other: Traced<N>) -> Traced<N> {
-        result(
-            self.value.max(other.value),
-            self.fault,
-            other.fault,
-            Cause::Other,
-        )
+        self.joined(other, N::max, Cause::Other)
     }
 
     fn sqrt(self) -> Traced<N> {
-        result(self.value.sqrt(), self.fault, None, Cause::Root)
+        self.followed(N::sqrt, Cause::Root)
     }
 
     fn cbrt(self) -> Traced<N> {
-        result(self.value.cbrt(), self.fault, None, Cause::Root)
+        self.followed(N::cbrt, Cause::Root)
     }
 
     fn whole(n: i64) -> Traced<N> {
-        result(N::whole(n), None, None, Cause::Other)
+        Traced::new(N::whole(n))
     }
 
     fn literal(l: Literal) -> Traced<N> {
-        result(N::literal(l), None, None, Cause::Other)
+        Traced::new(N::literal(l))
     }
 
     fn mark(self, stage: Stage) -> Traced<N> {
