@@ -1,5 +1,5 @@
 // f32 as a number kind, with correctly rounded roots.
-ghost use Rattle.std.specs.Prelude.{◌≡◌, false, None, refl};
+ghost use Rattle.std.specs.Prelude.{◌≡◌, false, None, ◌||◌, if◌then◌else◌, is_nan, refl};
 ghost use Rattle.number.specs.Decimals.{decimal};
 ghost use Rattle.number.specs.Floats.{nearest_decimal, accepted_direction, float_ops, float_arithmetic};
 ghost use Rattle.number.specs.Meaning.{float};
@@ -146,6 +146,18 @@ fn accepted_direction(a: f32, b: f32) -> bool
     (0.99999904632568359375 <= square) & (square <= 1.00000095367431640625)
 }
 
+// The first where it is preferred or the second is not a number, else the second. The library's `min` and `max` leave open
+// which of two zeros they answer.
+fn number_of(first: f32, second: f32, preferred: bool) -> f32
+    ensures { result ≡ (if preferred || is_nan second then first else second) }
+{
+    if preferred | second.is_nan() {
+        first
+    } else {
+        second
+    }
+}
+
 impl Number for f32 {
     type Plain = f32;
 
@@ -195,21 +207,12 @@ impl Number for f32 {
         -self
     }
 
-    // The other operand where one is not a number, the first where both are equal.
     fn min(self, other: f32) -> f32 {
-        if (self <= other) | other.is_nan() {
-            self
-        } else {
-            other
-        }
+        number_of(self, other, self <= other)
     }
 
     fn max(self, other: f32) -> f32 {
-        if (other <= self) | other.is_nan() {
-            self
-        } else {
-            other
-        }
+        number_of(self, other, other <= self)
     }
 
     fn sqrt(self) -> f32 {
@@ -265,11 +268,7 @@ impl Number for f32 {
             return None;
         }
         let n = saturating_f32_to_i32(self.round());
-        if -1000000 <= n && n <= 1000000 {
-            Some(n)
-        } else {
-            None
-        }
+        (-1000000..=1000000).contains(&n).then_some(n)
     }
 
     fn trace(self) -> Option<(u8, u8)> {

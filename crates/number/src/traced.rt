@@ -49,12 +49,8 @@ impl<N: Number> Traced<N> {
         requires { F.pre operation self.value other.value }
         ensures { (value : N) × F.post operation self.value other.value value × (result ≡ result_of N.ops value self.fault other.fault cause) }
     {
-        result(
-            operation(self.value, other.value),
-            self.fault,
-            other.fault,
-            cause,
-        )
+        let value = operation(self.value, other.value);
+        result(value, self.fault, other.fault, cause)
     }
 }
 
