@@ -138,12 +138,16 @@ fn nearest_literal(l: Literal) -> f32
     NEAREST[l as usize]
 }
 
+// 1 − 2^-20 and 1 + 2^-20.
+const SHORTEST: f32 = 0.99999904632568359375;
+
+const LONGEST: f32 = 1.00000095367431640625;
+
 // a² + b² is within 2^-20 of 1, ends included.
 fn accepted_direction(a: f32, b: f32) -> bool
     ensures { result ≡ accepted_direction a b }
 {
-    let square = a * a + b * b;
-    (0.99999904632568359375 <= square) & (square <= 1.00000095367431640625)
+    (SHORTEST..=LONGEST).contains(&(a * a + b * b))
 }
 
 // The first where it is preferred or the second is not a number, else the second. The library's `min` and `max` leave open
