@@ -15,7 +15,7 @@ pub fn square<N: Number>(x: N) -> N
 pub fn cube<N: Number>(x: N) -> N
     ensures { result ≡ cube_of N.ops x }
 {
-    x.mul(x).mul(x)
+    square(x).mul(x)
 }
 
 /// x without its sign
@@ -29,7 +29,7 @@ pub fn size<N: Number>(x: N) -> N
 fn lengthened<N: Number>(m: N, q: N) -> N
     ensures { result ≡ lengthened_by N.ops m q }
 {
-    m.mul(N::whole(1).add(q.mul(q)).sqrt())
+    m.mul(N::whole(1).add(square(q)).sqrt())
 }
 
 fn hypot_of_sizes<N: Number>(a: N, b: N) -> N
