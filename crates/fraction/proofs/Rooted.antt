@@ -1,28 +1,22 @@
 -- The root of a fraction from those of its two numbers.
-use Rattle.std.proofs.Common.{◌≡◌, ℕ, ◌<◌, Bool, true, false, cond, not, nat_abs, Some, None, sym, refl, ◌∙◌}
-use native.Mathlib.Nat as N
+use Rattle.std.proofs.Common.{◌≡◌, ℕ, ◌<◌, Bool, true, false, not, nat_abs, Some, sym, refl, ◌∙◌}
 use lib.Signed.{non_neg}
+use Rattle.std.specs.Bool.{then_some}
 use Rattle.std.proofs.lemmas.Bool.{and_from}
 use Rattle.rational.specs.Rational.{Rational, num, den}
 use Rattle.rational.specs.Parts.{Is}
 use Rattle.number.specs.Meaning.{fraction}
 use Rattle.fraction.specs.Bounded.{is_power, whole_root, root}
-use Rattle.fraction.specs.Degrees.{degree_number, exact_root}
+use Rattle.fraction.specs.Degrees.{exact_root}
 use Rattle.fraction.specs.Fractions.{with_sign}
-use Rattle.fraction.specs.declared.degree.Degree.{Degree}
-use Rattle.fraction.specs.declared.degree.Degree.TheVariants.{Second, Third}
 use Rattle.fraction.specs.Packs.{Within}
 use Rattle.fraction.specs.Roots.{root_of, root_is}
 use Rattle.fraction.proofs.Signs.{signed_sign}
 
-pub degree_above : (d : Degree) → 0 < degree_number d
-degree_above Second = N.zero-lt-suc 1
-degree_above Third = N.zero-lt-suc 2
-
 some_root : (k n w : ℕ) → exact_root k n ≡ Some w → (is_power k n ≡ true) × (whole_root k n ≡ w)
 some_root k n w e = go (is_power k n) e
   where
-    go : (b : Bool) → cond b (Some (whole_root k n)) None ≡ Some w → (b ≡ true) × (whole_root k n ≡ w)
+    go : (b : Bool) → then_some b (whole_root k n) ≡ Some w → (b ≡ true) × (whole_root k n ≡ w)
     go true e = (refl, cc)
     go false e = (cc, cc)
 

@@ -49,6 +49,9 @@ product_sign true false m n = neg-mul (pos m) (pos n)
 product_sign false true m n = mixed m n
 product_sign false false m n = refl
 
+pub sign_size : (z : ℤ) (n : ℕ) → n ≡ nat_abs z → with_sign (lt_z z (pos 0)) n ≡ z
+sign_size z n e = ap (with_sign (lt_z z (pos 0))) e ∙ sign_below z
+
 -- what the two numbers of a fraction obey
 module _ (x : Rational) (b : Bool) (n d : ℕ) (is : Is x (with_sign b n) d) where
   pub is_lowest : gcd n d ≡ 1

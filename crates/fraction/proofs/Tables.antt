@@ -1,56 +1,44 @@
--- What the tables of literals hold.
-use Rattle.std.proofs.Common.{◌≡◌, ℕ, ◌<◌, ◌≤◌, Bool, true, false, cond, ℤ, pos, nat_abs, sym, refl, ap, ◌∙◌, subst, ap₂, w64, to_z, of_z}
-use native.Mathlib.Nat as N
+-- What the table of literals holds.
+use Rattle.std.proofs.Common.{◌≡◌, ℕ, ◌<◌, Bool, true, false, cond, ℤ, pos, nat_abs, Some, None, Option, sym, refl, ap, ap₂, ◌∙◌, subst, w64, to_z, of_z}
 use lib.Signed.{lt_z}
 use Rattle.rational.specs.Gcd.{gcd}
 use Rattle.rational.specs.Rational.{Rational, num, den}
 use Rattle.rational.specs.Parts.{Is}
-use Rattle.number.specs.Meaning.{Meaning, lost, fraction}
-use Rattle.fraction.specs.Bound.{R}
+use Rattle.number.specs.Meaning.{lost}
 use Rattle.fraction.specs.Bounded.{fits, kept, constant}
-use Rattle.fraction.specs.Fractions.{with_sign}
 use Rattle.fraction.specs.Bounds.{fits_within}
+use Rattle.fraction.specs.Fractions.{with_sign}
 use Rattle.fraction.proofs.Casts.{passed}
-use Rattle.fraction.specs.Packs.{Within}
 use Rattle.fraction.proofs.Signs.{sign_below}
 
--- a denominator of 0 stands for a decimal that does not fit
-pub table_lost : (x : Rational) → cond (fits x) (den x) 0 ≡ 0 → constant x ≡ lost
+pub table_lost : (x : Rational) → cond {A = Option (ℤ × ℕ)} (fits x) (Some (num x, den x)) None ≡ None → constant x ≡ lost
 table_lost x e = go (fits x) e
   where
-    go : (b : Bool) → cond b (den x) 0 ≡ 0 → kept b x ≡ lost
-    go true e = absurd (N.lt_irrefl 0 (subst (λ z. 0 < z) e x.ratio.above))
+    go : (b : Bool) → cond {A = Option (ℤ × ℕ)} b (Some (num x, den x)) None ≡ None → kept b x ≡ lost
+    go true e = cc
     go false e = refl
 
-does_fit : (x : Rational) (d : ℕ) → d ≡ cond (fits x) (den x) 0 → ¬ (d ≡ 0) → fits x ≡ true
-does_fit x d e z = go (fits x) e
+-- the two numbers of an entry, and the size of the first
+pub record Entry (x : Rational) (n : ℤ) (s d : ℕ) : Type 0 where
+  pub parts : Is x (with_sign (lt_z (to_z w64 (of_z w64 n)) (pos 0)) s) d
+  pub positive : 0 < d
+  pub lowest : gcd s d ≡ 1
+
+pub entry : (x : Rational) (n : ℤ) (s d : ℕ) → cond {A = Option (ℤ × ℕ)} (fits x) (Some (num x, den x)) None ≡ Some (n, d) → s ≡ nat_abs (to_z w64 (of_z w64 n)) → Entry x n s d
+entry x n s d e f = go (fits x) refl e
   where
-    go : (b : Bool) → d ≡ cond b (den x) 0 → b ≡ true
-    go true e = refl
-    go false e = absurd (z e)
+    the_entry : {p q : ℤ × ℕ} → Some p ≡ Some q → p ≡ q
+    the_entry e = cc
 
--- any other entry holds the two numbers
-module _ (x : Rational) (n : ℤ) (s d : ℕ) (n-is : n ≡ cond (fits x) (num x) (pos 0)) (s-is : s ≡ nat_abs (to_z w64 (of_z w64 n))) (d-is : d ≡ cond (fits x) (den x) 0) (z : ¬ (d ≡ 0)) where
-  fit : fits x ≡ true
-  fit = does_fit x d d-is z
-
-  within : Within x
-  within = fits_within x fit
-
-  lower : d ≡ den x
-  lower = d-is ∙ ap (λ b. cond b (den x) 0) fit
-
-  upper : n ≡ num x
-  upper = n-is ∙ ap (λ b. cond b (num x) (pos 0)) fit
-
-  through : to_z w64 (of_z w64 n) ≡ num x
-  through = ap (λ k. to_z w64 (of_z w64 k)) upper ∙ passed (num x) within.upper
-
-  size : s ≡ nat_abs (num x)
-  size = s-is ∙ ap nat_abs through
-
-  pub table_requires : (s ≤ R) × ((0 < d) × ((d ≤ R) × (gcd s d ≡ 1)))
-  table_requires = (subst (λ k. k ≤ R) (sym size) within.upper, (subst (λ k. 0 < k) (sym lower) x.ratio.above, (subst (λ k. k ≤ R) (sym lower) within.lower, ap₂ gcd size lower ∙ x.lowest)))
-
-  pub table_kept : (m : Meaning) → ((y : Rational) → Is y (with_sign (lt_z (to_z w64 (of_z w64 n)) (pos 0)) s) d → m ≡ fraction y) → m ≡ constant x
-  table_kept m f = f x (sym (sign_below (num x)) ∙ sym (λ i. with_sign (lt_z (through i) (pos 0)) (size i)), sym lower) ∙ sym (ap (λ b. kept b x) fit)
+    go : (b : Bool) → fits x ≡ b → cond {A = Option (ℤ × ℕ)} b (Some (num x, den x)) None ≡ Some (n, d) → Entry x n s d
+    go false h e = cc
+    go true h e =
+        let upper : num x ≡ n = ap (λ p. p.0) (the_entry e) in
+        let lower : den x ≡ d = ap (λ p. p.1) (the_entry e) in
+        let through : to_z w64 (of_z w64 n) ≡ num x = ap (λ k. to_z w64 (of_z w64 k)) (sym upper) ∙ passed (num x) (fits_within x h).upper in
+        let size : s ≡ nat_abs (num x) = f ∙ ap nat_abs through in
+        record {
+          parts = (sym (sign_below (num x)) ∙ sym (λ i. with_sign (lt_z (through i) (pos 0)) (size i)), lower);
+          positive = subst (λ k. 0 < k) lower x.ratio.above;
+          lowest = ap₂ gcd size (sym lower) ∙ x.lowest;
+        }

@@ -2,8 +2,8 @@
 use Rattle.std.proofs.Common.{◌≡◌, ℕ, zero, suc, ◌+◌, ◌*◌, ◌/◌, ◌<◌, ◌≤◌, Bool, true, false, cond, not, ◌&&◌, eqb, leb, ◌⊎◌, ℤ, pos, ◌+ℤ◌, ◌*ℤ◌, neg_ℤ, nat_abs, Some, None, sym, refl, ap, ◌∙◌, subst, ap₂, inl, inr}
 use mathlib.Core.Bool.{beq}
 use native.Mathlib.Nat as N
-use lib.Signed.{non_neg, lt_z}
-use Rattle.std.proofs.lemmas.Bool.{le-leb, lt-leb, and_from, and_left, and_right, cond-true, cond-false, eqb-false}
+use lib.Signed.{non_neg}
+use Rattle.std.proofs.lemmas.Bool.{le-leb, lt-leb, leb-true, leb-false, and_from, and_left, and_right, cond-true, cond-false, eqb-false}
 use Rattle.rational.specs.Gcd.{gcd, gcd_reduced}
 use Rattle.rational.specs.Rational.{Rational, num, den, part, ratio_of, decimal, over, lit, reduce, reciprocal, quot_above, exact}
 use Rattle.rational.specs.Nearest.{nearest}
@@ -15,12 +15,12 @@ use Rattle.rational.proofs.Ratios.{reduce_eq, same_parts}
 use Rattle.number.specs.Exactness.{nearest_of}
 use Rattle.number.specs.Meaning.{Meaning, lost, fraction, float}
 use Rattle.fraction.specs.Bound.{R}
-use Rattle.fraction.specs.Bounded.{kept, fits, constant, ratio, sum_fits, sum, difference, product_fits, product, inverse, quotient, one, two}
+use Rattle.fraction.specs.Bounded.{kept, constant, ratio, sum_fits, sum, difference, product_fits, product, inverse, quotient, one, two}
 use Rattle.fraction.specs.Fractions.{meaning_of, value_of, with_sign}
 use Rattle.fraction.specs.declared.fraction.Fraction.{Fraction}
 use Rattle.fraction.specs.Bounds.{within_fits, reduce_within, multiple_above, abs_signed, abs_zero}
 use Rattle.fraction.specs.Roots.{ratio_at}
-use Rattle.fraction.proofs.Signs.{size_of, sign_of, sign_below, scaled, part_sign, part-size, product_sign, signed_sign}
+use Rattle.fraction.proofs.Signs.{size_of, sign_of, scaled, part_sign, part-size, product_sign, signed_sign}
 
 -- at two fractions that are not lost
 pub at_values : {A : Type 0} (none : A) (f : Rational → Rational → A) (p q : Fraction) → p.lost ≡ false → q.lost ≡ false → two none f (meaning_of p) (meaning_of q) ≡ f (value_of p) (value_of q)
@@ -37,6 +37,40 @@ negative_means q v n d = go q.lost
     go true = refl
     go false = let is = parts_laws.negative (value_of q) in ap fraction (same_parts (n ∙ sym is.0) (d ∙ sym is.1))
 
+-- ---- a product within the bound
+
+pub record Kept (p w : ℕ) : Type 0 where
+  pub below : p ≤ R
+  pub is : p ≡ w
+  pub small : w ≤ R
+
+pub within : (p w : ℕ) → cond (leb p R) (Some p) None ≡ Some w → Kept p w
+within p w e = go (leb p R) refl e
+  where
+    go : (t : Bool) → leb p R ≡ t → cond t (Some p) None ≡ Some w → Kept p w
+    go true h e = let i : p ≡ w = cc in record { below = leb-true p R h; is = i; small = subst (λ k. k ≤ R) i (leb-true p R h) }
+    go false h e = cc
+
+pub beyond : (p : ℕ) → cond (leb p R) (Some p) None ≡ None → R < p
+beyond p e = go (leb p R) refl e
+  where
+    go : (t : Bool) → leb p R ≡ t → cond t (Some p) None ≡ None → R < p
+    go true h e = cc
+    go false h e = leb-false p R h
+
+-- ---- a fraction in lowest terms, by the sizes of its two numbers
+
+module _ (x : Rational) (b : Bool) (n d : ℕ) (is : Is x (with_sign b n) d) where
+  size_is : nat_abs (num x) ≡ n
+  size_is = ap nat_abs is.0 ∙ size_of b n
+
+  pub constant_lost : (R < n) ⊎ (R < d) → constant x ≡ lost
+  constant_lost (inl h) = cond-false _ _ _ (and_left _ _ (ap (λ k. leb k R) size_is ∙ lt-leb _ R h))
+  constant_lost (inr h) = cond-false _ _ _ (and_right _ _ (ap (λ k. leb k R) is.1 ∙ lt-leb _ R h))
+
+  pub constant_kept : n ≤ R → d ≤ R → constant x ≡ fraction x
+  constant_kept p q = cond-true _ _ _ (and_from _ _ (ap (λ k. leb k R) size_is ∙ le-leb _ R p) (ap (λ k. leb k R) is.1 ∙ le-leb _ R q))
+
 -- ---- n / d in lowest terms
 
 module _ (b : Bool) (n d g : ℕ) (above : 0 < d) (g-is : g ≡ gcd n d) where
@@ -50,18 +84,11 @@ module _ (b : Bool) (n d g : ℕ) (above : 0 < d) (g-is : g ≡ gcd n d) where
     ap (λ k. d / gcd k d) (size_of b n) ∙ ap (λ k. d / k) (sym g-is),
   )
 
-  size_is : nat_abs (num whole) ≡ n / g
-  size_is = ap nat_abs parts.0 ∙ size_of b (n / g)
-
   at : one lost constant (ratio (with_sign b n) d) ≡ constant whole
   at = ap (one lost constant) (ratio_at (with_sign b n) d above)
 
-  pub reduced_lost : (R < n / g) ⊎ (R < d / g) → one lost constant (ratio (with_sign b n) d) ≡ lost
-  reduced_lost (inl h) = at ∙ cond-false _ _ _ (and_left _ _ (ap (λ k. leb k R) size_is ∙ lt-leb _ R h))
-  reduced_lost (inr h) = at ∙ cond-false _ _ _ (and_right _ _ (ap (λ k. leb k R) parts.1 ∙ lt-leb _ R h))
-
-  pub reduced_kept : (m : Meaning) → n / g ≤ R → d / g ≤ R → ((x : Rational) → Is x (with_sign b (n / g)) (d / g) → m ≡ fraction x) → m ≡ one lost constant (ratio (with_sign b n) d)
-  reduced_kept m p q f = f whole parts ∙ sym (at ∙ cond-true _ _ _ (and_from _ _ (ap (λ k. leb k R) size_is ∙ le-leb _ R p) (ap (λ k. leb k R) parts.1 ∙ le-leb _ R q)))
+  pub reduced_is : (m : Meaning) → ((x : Rational) → Is x (with_sign b (n / g)) (d / g) → m ≡ constant x) → m ≡ one lost constant (ratio (with_sign b n) d)
+  reduced_is m f = f whole parts ∙ sym at
 
   pub reduced_above : 0 < d / g
   reduced_above = subst (λ k. 0 < d / k) (sym g-is) (quot_above n d above)
@@ -72,21 +99,13 @@ module _ (b : Bool) (n d g : ℕ) (above : 0 < d) (g-is : g ≡ gcd n d) where
 -- ---- sums
 
 -- within the bound n / d is kept
-constant-ratio : (n : ℤ) (d : ℕ) → 0 < d → nat_abs n ≤ R → d ≤ R → one lost constant (ratio n d) ≡ ratio n d
+constant-ratio : (n : ℤ) (d : ℕ) → nat_abs n ≤ R → d ≤ R → one lost constant (ratio n d) ≡ ratio n d
 unfolding over
-constant-ratio n d h p q = ap (one lost constant) (ratio_at n d h) ∙ cond-true _ _ _ small ∙ sym (ratio_at n d h)
-  where
-    small : fits (over n d h) ≡ true
-    small = within_fits (over n d h) (reduce_within n d h p q)
+constant-ratio n zero p q = refl
+constant-ratio n (suc d) p q = cond-true _ _ _ (within_fits (over n (suc d) (N.zero-lt-suc d)) (reduce_within n (suc d) (N.zero-lt-suc d) p q))
 
--- z / d by the sign and the size s of z
-pub ratio-kept : (z n : ℤ) (s d : ℕ) → n ≡ z → s ≡ nat_abs n → s ≤ R → 0 < d → d ≤ R → one lost constant (ratio (with_sign (lt_z n (pos 0)) s) d) ≡ cond (leb (nat_abs z) R) (ratio z d) lost
-ratio-kept z n s d e f p h q =
-    ap (λ k. one lost constant (ratio k d)) (ap (with_sign (lt_z n (pos 0))) f ∙ sign_below n ∙ e)
-    ∙ constant-ratio z d h small q ∙ sym (cond-true _ _ _ (le-leb _ R small))
-  where
-    small : nat_abs z ≤ R
-    small = subst (λ k. k ≤ R) (f ∙ ap nat_abs e) p
+pub ratio-kept : (z : ℤ) (d : ℕ) → nat_abs z ≤ R → d ≤ R → one lost constant (ratio z d) ≡ cond (leb (nat_abs z) R) (ratio z d) lost
+ratio-kept z d h q = constant-ratio z d h q ∙ sym (cond-true _ _ _ (le-leb _ R h))
 
 module _ (a b : Rational) (g : ℕ) (g-is : g ≡ gcd (den a) (den b)) (m n : ℕ) (m-is : m ≡ nat_abs (num a)) (n-is : n ≡ nat_abs (num b)) where
   left_size : nat_abs (num a *ℤ pos (den b / gcd (den a) (den b))) ≡ m * (den b / g)
@@ -129,10 +148,10 @@ module _ (a b : Rational) (g : ℕ) (g-is : g ≡ gcd (den a) (den b)) (m n : �
         go true e f g = sym (λ i. e i && (f i && g i))
         go false e f g = sym (λ i. e i && (f i && false))
 
-    pub sum_kept : (x y : ℤ) → x ≡ with_sign s (m * (den b / g)) → y ≡ with_sign t (n * (den a / g)) → m * (den b / g) ≤ R → n * (den a / g) ≤ R → den a * (den b / g) ≤ R
-        → cond (leb (nat_abs (x +ℤ y)) R) (ratio (x +ℤ y) (den a * (den b / g))) lost ≡ sum a b
-    sum_kept x y e f p q r =
-        (λ i. cond (leb (nat_abs ((e ∙ left_is) i +ℤ (f ∙ right_is) i)) R) (ratio ((e ∙ left_is) i +ℤ (f ∙ right_is) i) (sym lower i)) lost)
+    pub sum_kept : (x y : ℤ) (k : ℕ) → x ≡ with_sign s (m * (den b / g)) → y ≡ with_sign t (n * (den a / g)) → den a * (den b / g) ≡ k → m * (den b / g) ≤ R → n * (den a / g) ≤ R → den a * (den b / g) ≤ R
+        → cond (leb (nat_abs (x +ℤ y)) R) (ratio (x +ℤ y) k) lost ≡ sum a b
+    sum_kept x y k e f d p q r =
+        (λ i. cond (leb (nat_abs ((e ∙ left_is) i +ℤ (f ∙ right_is) i)) R) (ratio ((e ∙ left_is) i +ℤ (f ∙ right_is) i) (sym (lower ∙ d) i)) lost)
         ∙ (λ i. cond (test p q r i) (together i) lost)
 
 -- a difference is the sum with the negative
@@ -165,6 +184,13 @@ module _ (a b : Rational) (s t : Bool) (m n : ℕ) (s-is : s ≡ not (non_neg (n
     (parts_laws.product a b).1 ∙ sym (λ i. den a / gcd (n-is i) (den a) * (den b / gcd (m-is i) (den b))),
   )
 
+  module _ (g h : ℕ) (g-is : g ≡ gcd m (den b)) (h-is : h ≡ gcd n (den a)) (k d : ℕ) (k-is : m / g * (n / h) ≡ k) (d-is : den a / h * (den b / g) ≡ d) where
+    pub product_sizes : Is (exact.mul a b) (with_sign (not (beq s t)) k) d
+    product_sizes = (
+      product_parts.0 ∙ sym (λ i. with_sign (not (beq s t)) (m / g-is i * (n / h-is i))) ∙ ap (with_sign (not (beq s t))) k-is,
+      product_parts.1 ∙ sym (λ i. den a / h-is i * (den b / g-is i)) ∙ d-is,
+    )
+
   pub product_test : kept (product_fits m (den a) n (den b)) (exact.mul a b) ≡ product a b
   product_test = λ i. kept (product_fits (m-is i) (den a) (n-is i) (den b)) (exact.mul a b)
 
@@ -181,13 +207,6 @@ quotient_is (fraction a) (fraction b) = go (eqb (nat_abs (num b)) 0) refl
         λ i. kept (product_fits (nat_abs (num a)) (den a) ((ap nat_abs is.0 ∙ abs_signed (num b) (den b)) i) (is.1 i)) (sym (parts_laws.by_reciprocal a b) i)
 quotient_is (fraction a) (float y) = refl
 quotient_is (float x) n = refl
-
-pub size_above : (n m : ℕ) → n ≡ m → ¬ (m ≡ 0) → 0 < n
-size_above n m e z = go n (λ k. z (sym e ∙ k))
-  where
-    go : (k : ℕ) → ¬ (k ≡ 0) → 0 < k
-    go zero h = absurd (h refl)
-    go (suc k) h = N.zero-lt-suc k
 
 -- the two numbers of a reciprocal
 pub inverse_parts : (b : Rational) (s : Bool) → s ≡ not (non_neg (num b)) → ¬ (nat_abs (num b) ≡ 0) → Is (reciprocal b) (with_sign s (den b)) (nat_abs (num b))

@@ -1,5 +1,6 @@
 -- The whole part of a root, and the roots of fractions: the root of a power is its base.
-use Rattle.std.specs.Prelude.{◌≡◌, ℕ, zero, suc, ◌+◌, ◌*◌, ◌/◌, ◌^◌, ◌<◌, ◌≤◌, Bool, true, false, cond, ◌&&◌, T, ◌⊎◌, ℤ, pos, negsuc, ◌*ℤ◌, neg_ℤ, Some, None, ◌==◌, nat_le, unsigned_abs, refl}
+use Rattle.std.specs.Prelude.{◌≡◌, ℕ, zero, suc, ◌+◌, ◌*◌, ◌/◌, ◌^◌, ◌<◌, ◌≤◌, Bool, true, false, cond, ◌&&◌, T, ◌⊎◌, ℤ, pos, negsuc, ◌*ℤ◌, neg_ℤ, ◌==◌, nat_le, unsigned_abs, refl}
+use Rattle.std.specs.Bool.{then_some}
 use Rattle.std.specs.Int.{◌∣◌}
 use Rattle.std.proofs.Common.{inl, inr, sym, ap, ap₂, subst, ◌∙◌, arith, pow_pos, pow_mono}
 use Rattle.std.proofs.Math.Nat as N
@@ -19,16 +20,16 @@ use Rattle.number.specs.Meaning.{Meaning, lost, fraction}
 use Rattle.number.specs.Exactness.{IsCubeRoot}
 use Rattle.fraction.specs.Bound.{R}
 use Rattle.fraction.specs.Bounded.{ratio, whole_root, is_power, root, square_root}
-use Rattle.fraction.specs.Degrees.{exact_root}
+use Rattle.fraction.specs.Degrees.{IsWholeRoot, exact_root}
 use Rattle.fraction.specs.Packs.{Within, Fit, fit_lost, fit_fraction}
 use Rattle.fraction.specs.Bounds.{abs_signed}
 
 -- ---- powers
 
-square : (s : ℕ) → s ^ 2 ≡ s * s
+pub square : (s : ℕ) → s ^ 2 ≡ s * s
 square s = N.pow-suc s 1 ∙ ap (λ (x : ℕ). x * s) (N.pow-suc s 0 ∙ ap (λ (x : ℕ). x * s) (N.pow-zero s) ∙ N.one-mul s)
 
-cube : (s : ℕ) → s ^ 3 ≡ s * s * s
+pub cube : (s : ℕ) → s ^ 3 ≡ s * s * s
 cube s = N.pow-suc s 2 ∙ ap (λ (x : ℕ). x * s) (square s)
 
 power_of_product : (a b d : ℕ) → (a * b) ^ d ≡ a ^ d * b ^ d
@@ -44,13 +45,10 @@ zero_power (suc d) h = N.pow-suc 0 d ∙ N.mul-zero (0 ^ d)
 
 -- ---- the whole part of a root
 
-abbrev Whole : ℕ → ℕ → ℕ → Type 0
-Whole d s n = (s ^ d ≤ n) × (n < (s + 1) ^ d)
-
 twice : (r d : ℕ) → (2 * r) ^ d ≡ r ^ d * 2 ^ d
 twice r d = power_of_product 2 r d ∙ N.mul_comm (2 ^ d) (r ^ d)
 
-digit : (d r n : ℕ) (b : Bool) → Whole d r (n / 2 ^ d) → nat_le ((2 * r + 1) ^ d) n ≡ b → Whole d (cond b (2 * r + 1) (2 * r)) n
+digit : (d r n : ℕ) (b : Bool) → IsWholeRoot d r (n / 2 ^ d) → nat_le ((2 * r + 1) ^ d) n ≡ b → IsWholeRoot d (cond b (2 * r + 1) (2 * r)) n
 digit d r n true h e =
     let two : 2 * r + 1 + 1 ≡ 2 * (r + 1) = omega arith in
     (leb-true _ _ e, subst (λ (x : ℕ). n < x) (sym (ap (λ (x : ℕ). x ^ d) two ∙ twice (r + 1) d)) ((N.div-lt_iff_lt-mul (pow_pos d)).0 h.1))
@@ -61,7 +59,7 @@ shorter d k n D h =
     let two : 2 ^ 1 ≤ 2 ^ d = pow_mono {i = 1} {j = d} D in
     (N.div-lt_iff_lt-mul (pow_pos d)).1 (N.lt_of_lt_of_le h (N.le_trans (N.le_of_eq (N.pow-suc 2 k)) (N.mul-le-mul_left (2 ^ k) two)))
 
-whole_part : (d k n : ℕ) → 0 < d → n < 2 ^ k → Whole d (root_below d k n) n
+whole_part : (d k n : ℕ) → 0 < d → n < 2 ^ k → IsWholeRoot d (root_below d k n) n
 unfolding root_below
 whole_part d zero n D h =
     let z : n ≡ 0 = omega arith in
@@ -69,10 +67,10 @@ whole_part d zero n D h =
 whole_part d (suc k) n D h = digit d (root_below d k (n / 2 ^ d)) n _ (whole_part d k (n / 2 ^ d) D (shorter d k n D h)) refl
 
 -- a number has one whole part of its root
-whole-one : (d s w n : ℕ) → 0 < d → Whole d s n → Whole d w n → s ≡ w
+whole-one : (d s w n : ℕ) → 0 < d → IsWholeRoot d s n → IsWholeRoot d w n → s ≡ w
 whole-one d s w n D p q = go (cases_order s w)
   where
-    less : (a b : ℕ) → a < b → Whole d a n → Whole d b n → ⊥
+    less : (a b : ℕ) → a < b → IsWholeRoot d a n → IsWholeRoot d b n → ⊥
     less a b h (_, k) (l, _) = let i : a + 1 ≤ b = omega arith in omega (arith, N.pow-le-pow_left i d)
 
     go : (s ≡ w) ⊎ ((s < w) ⊎ (w < s)) → s ≡ w
@@ -80,11 +78,11 @@ whole-one d s w n D p q = go (cases_order s w)
     go (inr (inl h)) = absurd (less s w h p q)
     go (inr (inr h)) = absurd (less w s h q p)
 
-root-whole : (d s n : ℕ) → 0 < d → Whole d s n → whole_root d n ≡ s
+root-whole : (d s n : ℕ) → 0 < d → IsWholeRoot d s n → whole_root d n ≡ s
 root-whole d s n D h = whole-one d (whole_root d n) s n D (whole_part d (size n) n D (size-lt n)) h
 
 -- the base of a power is its whole root
-base_whole : (d w n : ℕ) → 0 < d → w ^ d ≡ n → Whole d w n
+base_whole : (d w n : ℕ) → 0 < d → w ^ d ≡ n → IsWholeRoot d w n
 base_whole d w n D e = (N.le_of_eq e, subst (λ (x : ℕ). x < (w + 1) ^ d) e (N.pow-lt-pow_left {n = d} (omega arith) (λ (z : d ≡ 0). omega arith)))
 
 power_root : (d w n : ℕ) → 0 < d → w ^ d ≡ n → (whole_root d n ≡ w) × (is_power d n ≡ true)
@@ -99,21 +97,9 @@ unfolding is_power
 power_is d n e = eqb-true _ _ e
 
 -- what is left of the whole part by a test
-exact_is : (d s n : ℕ) → 0 < d → Whole d s n → exact_root d n ≡ cond (s ^ d == n) (Some s) None
+pub exact_root-test : (d s n : ℕ) → 0 < d → IsWholeRoot d s n → exact_root d n ≡ then_some (s ^ d == n) s
 unfolding is_power
-exact_is d s n D h = let e = root-whole d s n D h in λ i. cond (e i ^ d == n) (Some (e i)) None
-
-pub exact-square : (s n : ℕ) → (s * s ≤ n) × (n < (s + 1) * (s + 1)) → exact_root 2 n ≡ cond (s * s == n) (Some s) None
-exact-square s n (p, q) = exact_is 2 s n (N.zero-lt-suc 1) (subst (λ (x : ℕ). x ≤ n) (sym (square s)) p, subst (λ (x : ℕ). n < x) (sym (square (s + 1))) q)
-    ∙ ap (λ (x : ℕ). cond (x == n) (Some s) None) (square s)
-
-pub exact-cube : (s n : ℕ) → (s * s * s ≤ n) × (n < (s + 1) * (s + 1) * (s + 1)) → exact_root 3 n ≡ cond (s * s * s == n) (Some s) None
-exact-cube s n (p, q) = exact_is 3 s n (N.zero-lt-suc 2) (subst (λ (x : ℕ). x ≤ n) (sym (cube s)) p, subst (λ (x : ℕ). n < x) (sym (cube (s + 1))) q)
-    ∙ ap (λ (x : ℕ). cond (x == n) (Some s) None) (cube s)
-
-pub square_below_cube : (s : ℕ) → s * s ≤ s * s * s
-square_below_cube zero = omega arith
-square_below_cube (suc s) = N.le_trans (N.le_of_eq (sym (N.mul-one (suc s * suc s)))) (N.mul-le-mul_left (suc s * suc s) (N.zero-lt-suc s))
+exact_root-test d s n D h = let e = root-whole d s n D h in λ i. then_some (e i ^ d == n) (e i)
 
 -- a base divides its power, and is not above it
 base_divides : (d w : ℕ) → 0 < d → w ∣ w ^ d

@@ -1,45 +1,34 @@
 // Sums, products, quotients and negatives of fractions.
-ghost use Rattle.std.specs.Prelude.{◌≡◌, ◌*◌, ◌/◌, ◌<◌, ◌≤◌, ◌+ℤ◌, if◌then◌else◌, nat_le, unsigned_abs};
-ghost use Rattle.rational.specs.Gcd.{gcd};
-ghost use Rattle.rational.specs.Rational.{Rational, reciprocal, exact};
-ghost use Rattle.rational.specs.Parts.{Is};
+ghost use Rattle.std.specs.Prelude.{◌≡◌, ◌*◌, ◌≤◌, ◌+ℤ◌, if◌then◌else◌, nat_le, unsigned_abs};
+ghost use Rattle.rational.specs.Rational.{exact};
 ghost use Rattle.number.specs.Meaning.{lost, fraction};
 ghost use Rattle.fraction.specs.Bound.{R};
-ghost use Rattle.fraction.specs.Bounded.{kept, ratio, sum, product, product_fits, inverse, difference, quotient, one, two};
-ghost use Rattle.fraction.specs.Fractions.{meaning_of, value_of, with_sign};
+ghost use Rattle.fraction.specs.Bounded.{ratio, sum, product, inverse, difference, quotient, one, two};
+ghost use Rattle.fraction.specs.Fractions.{meaning_of};
 
 use super::Fraction;
-use super::made::{LIMIT, in_lowest_terms, lost, reduced, with_sign};
+use super::made::{LIMIT, LowestTerms, lost, with_sign};
 use crate::divisor::common_divisor;
 
-// (x + y) / denominator, lost if the sum exceeds the bound.
-fn sum_over(x: i64, y: i64, denominator: u64) -> Fraction
-    requires { (unsigned_abs x ≤ R) × ((unsigned_abs y ≤ R) × ((0 < denominator) × (denominator ≤ R))) }
-    ensures { meaning_of result ≡ (if nat_le (unsigned_abs (x +ℤ y)) R then ratio (x +ℤ y) denominator else lost) }
+// The product, where it is within the bound.
+fn bounded_product(a: u64, b: u64) -> Option<u64>
+    ensures { result ≡ (if nat_le (a * b) R then Some (a * b) else None) }
 {
-    let n = x + y;
-    let size = n.unsigned_abs();
-    if size > LIMIT {
-        lost()
-    } else {
-        reduced(n < 0, size, denominator)
-    }
+    a.checked_mul(b).filter(|product| *product <= LIMIT)
 }
 
-// The product of a/b and c/d, positive fractions in lowest terms, with a sign: the factors that a and d share and those
-// that c and b share are removed first, and what is left has no factor in common.
-fn product_of(negative: bool, a: u64, b: u64, c: u64, d: u64) -> Fraction
-    requires { (0 < b) × ((0 < d) × (gcd (a / gcd a d * (c / gcd c b)) (b / gcd c b * (d / gcd a d)) ≡ 1)) }
-    ensures { (x : Rational) → Is x (with_sign negative (a / gcd a d * (c / gcd c b))) (b / gcd c b * (d / gcd a d)) → meaning_of result ≡ kept (product_fits a b c d) x }
+// (left + right) / denominator, lost if the sum exceeds the bound.
+fn sum_over(left: i64, right: i64, denominator: u64) -> Fraction
+    requires left_bound { unsigned_abs left ≤ R }
+    requires right_bound { unsigned_abs right ≤ R }
+    requires lower_bound { denominator ≤ R }
+    ensures { meaning_of result ≡ (if nat_le (unsigned_abs (left +ℤ right)) R then ratio (left +ℤ right) denominator else lost) }
 {
-    let g = common_divisor(a, d);
-    let h = common_divisor(c, b);
-    let n = (a / g) as u128 * (c / h) as u128;
-    let e = (b / h) as u128 * (d / g) as u128;
-    if n > LIMIT as u128 || e > LIMIT as u128 {
+    let numerator = left + right;
+    if numerator.unsigned_abs() > LIMIT {
         return lost();
     }
-    in_lowest_terms(negative, n as u64, e as u64)
+    Fraction::new(numerator, denominator)
 }
 
 impl Fraction {
@@ -49,42 +38,48 @@ impl Fraction {
         if self.lost || other.lost {
             return lost();
         }
-        let g = common_divisor(self.denominator, other.denominator);
-        let k = other.denominator / g;
-        let x = self.size() as u128 * k as u128;
-        let y = other.size() as u128 * (self.denominator / g) as u128;
-        let e = self.denominator as u128 * k as u128;
-        if x > LIMIT as u128 || y > LIMIT as u128 || e > LIMIT as u128 {
+        let divisor = common_divisor(self.denominator, other.denominator);
+        let factor = other.denominator / divisor;
+        let (Some(left), Some(right), Some(denominator)) = (
+            bounded_product(self.size(), factor),
+            bounded_product(other.size(), self.denominator / divisor),
+            bounded_product(self.denominator, factor),
+        ) else {
             return lost();
-        }
+        };
         sum_over(
-            with_sign(self.is_negative(), x as u64),
-            with_sign(other.is_negative(), y as u64),
-            e as u64,
+            with_sign(self.is_negative(), left),
+            with_sign(other.is_negative(), right),
+            denominator,
         )
     }
 
+    // What one numerator and the other denominator share is removed first, so that the product is in lowest terms.
     pub(super) fn times(self, other: Fraction) -> Fraction
         ensures { meaning_of result ≡ two lost product (meaning_of self) (meaning_of other) }
     {
         if self.lost || other.lost {
             return lost();
         }
-        product_of(
-            self.is_negative() != other.is_negative(),
-            self.size(),
-            self.denominator,
-            other.size(),
-            other.denominator,
-        )
-    }
-
-    // 1 / self, where that is a number.
-    fn inverted(self) -> Fraction
-        requires { ¬ (unsigned_abs self.numerator ≡ 0) }
-        ensures { meaning_of result ≡ fraction (reciprocal (value_of self)) }
-    {
-        in_lowest_terms(self.is_negative(), self.denominator, self.size())
+        let left = self.size();
+        let right = other.size();
+        let left_divisor = common_divisor(left, other.denominator);
+        let right_divisor = common_divisor(right, self.denominator);
+        let (Some(size), Some(denominator)) = (
+            bounded_product(left / left_divisor, right / right_divisor),
+            bounded_product(
+                self.denominator / right_divisor,
+                other.denominator / left_divisor,
+            ),
+        ) else {
+            return lost();
+        };
+        LowestTerms {
+            negative: self.is_negative() != other.is_negative(),
+            size,
+            denominator,
+        }
+        .bounded()
     }
 
     // 1 / self, lost at 0.
@@ -92,10 +87,14 @@ impl Fraction {
         ensures { meaning_of result ≡ one lost inverse (meaning_of self) }
     {
         if self.lost || self.size() == 0 {
-            lost()
-        } else {
-            self.inverted()
+            return lost();
         }
+        LowestTerms {
+            negative: self.is_negative(),
+            size: self.denominator,
+            denominator: self.size(),
+        }
+        .bounded()
     }
 
     pub(super) fn over(self, other: Fraction) -> Fraction

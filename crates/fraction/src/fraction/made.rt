@@ -4,7 +4,7 @@ ghost use Rattle.std.specs.Int.Signed.{non_neg};
 ghost use Rattle.rational.specs.Gcd.{gcd};
 ghost use Rattle.rational.specs.Rational.{Rational, exact};
 ghost use Rattle.rational.specs.Parts.{Is};
-ghost use Rattle.number.specs.Meaning.{lost, fraction};
+ghost use Rattle.number.specs.Meaning.{lost};
 ghost use Rattle.fraction.specs.Bound.{R};
 ghost use Rattle.fraction.specs.Bounded.{ratio, constant, one};
 ghost use Rattle.fraction.specs.Fractions.{meaning_of, with_sign, proper, of_plain};
@@ -26,51 +26,39 @@ pub(super) fn lost() -> Fraction
     }
 }
 
-// n, or −n where it is negative.
-pub(super) fn with_sign(negative: bool, n: u64) -> i64
-    requires { n ≤ R }
-    ensures { result ≡ with_sign negative n }
+// The size, or its negative.
+pub(super) fn with_sign(negative: bool, size: u64) -> i64
+    requires { size ≤ R }
+    ensures { result ≡ with_sign negative size }
 {
-    let n = n as i64;
+    let n = size as i64;
     if negative { -n } else { n }
 }
 
-// The fraction of two numbers that have no factor in common.
-pub(super) fn in_lowest_terms(negative: bool, size: u64, denominator: u64) -> Fraction
-    requires { (size ≤ R) × ((0 < denominator) × ((denominator ≤ R) × (gcd size denominator ≡ 1))) }
-    ensures { (x : Rational) → Is x (with_sign negative size) denominator → meaning_of result ≡ fraction x }
-{
-    Fraction {
-        numerator: with_sign(negative, size),
-        denominator,
-        lost: false,
-    }
+// A fraction in lowest terms by its sign and the sizes of its two numbers, bound by nothing else.
+#[derive(Clone, Copy)]
+pub(super) struct LowestTerms {
+    pub(super) negative: bool,
+    pub(super) size: u64,
+    pub(super) denominator: u64,
+    ghost positive: { 0 < denominator },
+    ghost lowest: { gcd size denominator ≡ 1 },
 }
 
-// The fraction of two numbers, both divided by their greatest common divisor; lost if it then exceeds the bound.
-fn divided(negative: bool, size: u64, denominator: u64, divisor: u64) -> Fraction
-    requires { (0 < denominator) × ((0 < divisor) × (divisor ≡ gcd size denominator)) }
-    ensures { meaning_of result ≡ one lost constant (ratio (with_sign negative size) denominator) }
-{
-    let n = size / divisor;
-    let d = denominator / divisor;
-    if n > LIMIT || d > LIMIT {
-        return lost();
+impl LowestTerms {
+    // The fraction, lost if it exceeds the bound.
+    pub(super) fn bounded(self) -> Fraction
+        ensures { (x : Rational) → Is x (with_sign self.negative self.size) self.denominator → meaning_of result ≡ constant x }
+    {
+        if self.size > LIMIT || self.denominator > LIMIT {
+            return lost();
+        }
+        Fraction {
+            numerator: with_sign(self.negative, self.size),
+            denominator: self.denominator,
+            lost: false,
+        }
     }
-    in_lowest_terms(negative, n, d)
-}
-
-// The fraction of two numbers, brought to lowest terms; lost if it then exceeds the bound.
-pub(super) fn reduced(negative: bool, size: u64, denominator: u64) -> Fraction
-    requires { 0 < denominator }
-    ensures { meaning_of result ≡ one lost constant (ratio (with_sign negative size) denominator) }
-{
-    divided(
-        negative,
-        size,
-        denominator,
-        common_divisor(size, denominator),
-    )
 }
 
 // Whether n/d is in lowest terms and within the bound.
@@ -87,10 +75,7 @@ fn is_proper(n: i64, d: u64) -> bool
 pub(super) fn of_plain(p: PlainFraction) -> Fraction
     ensures { result ≡ of_plain p }
 {
-    if p.lost {
-        return lost();
-    }
-    if !is_proper(p.numerator, p.denominator) {
+    if p.lost || !is_proper(p.numerator, p.denominator) {
         return lost();
     }
     Fraction {
@@ -113,10 +98,16 @@ impl Fraction {
         ensures { meaning_of result ≡ one lost constant (ratio numerator denominator) }
     {
         if denominator == 0 {
-            lost()
-        } else {
-            reduced(numerator < 0, numerator.unsigned_abs(), denominator)
+            return lost();
         }
+        let size = numerator.unsigned_abs();
+        let divisor = common_divisor(size, denominator);
+        LowestTerms {
+            negative: numerator < 0,
+            size: size / divisor,
+            denominator: denominator / divisor,
+        }
+        .bounded()
     }
 
     /// The numerator; 0 of a lost number.
