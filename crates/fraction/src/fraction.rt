@@ -12,7 +12,8 @@ mod root;
 mod show;
 
 /// A fraction in lowest terms whose numerator, without its sign, and denominator are at most 2^62 − 1; or a lost one.
-#[derive(Clone, Copy)]
+// The form is fixed: three fields that lie in a row as they stand.
+#[derive(Clone, Copy, PartialEq, Eq)]
 pub struct Fraction {
     numerator: i64,
     denominator: u64,
@@ -25,6 +26,7 @@ pub struct Fraction {
 }
 
 /// A fraction as it lies in a row, bound by no rule.
+// The form is fixed: three fields that lie in a row as they stand.
 #[derive(Clone, Copy)]
 pub struct PlainFraction {
     pub numerator: i64,

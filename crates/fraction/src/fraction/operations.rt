@@ -97,16 +97,11 @@ impl Number for Fraction {
     }
 
     fn eq(self, other: Fraction) -> bool {
-        !self.lost
-            && !other.lost
-            && self.numerator == other.numerator
-            && self.denominator == other.denominator
+        !self.lost && self == other
     }
 
     fn same(self, other: Fraction) -> bool {
-        self.lost == other.lost
-            && self.numerator == other.numerator
-            && self.denominator == other.denominator
+        self == other
     }
 
     fn is_spoiled(self) -> bool {
