@@ -8,6 +8,7 @@ mod literal;
 mod made;
 mod operations;
 mod order;
+mod plain;
 mod root;
 mod show;
 

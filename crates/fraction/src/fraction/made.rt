@@ -7,9 +7,9 @@ ghost use Rattle.rational.specs.Parts.{Is};
 ghost use Rattle.number.specs.Meaning.{lost};
 ghost use Rattle.fraction.specs.Bound.{R};
 ghost use Rattle.fraction.specs.Bounded.{ratio, constant, one};
-ghost use Rattle.fraction.specs.Fractions.{meaning_of, with_sign, proper, of_plain};
+ghost use Rattle.fraction.specs.Fractions.{meaning_of, with_sign};
 
-use super::{Fraction, PlainFraction};
+use super::Fraction;
 use crate::divisor::common_divisor;
 
 // The largest numerator and denominator, 2^62 − 1.
@@ -58,30 +58,6 @@ impl LowestTerms {
             denominator: self.denominator,
             lost: false,
         }
-    }
-}
-
-// Whether n/d is in lowest terms and within the bound.
-fn is_proper(n: i64, d: u64) -> bool
-    ensures { result ≡ proper n d }
-{
-    if d == 0 || d > LIMIT || n.unsigned_abs() > LIMIT {
-        return false;
-    }
-    common_divisor(n.unsigned_abs(), d) == 1
-}
-
-// The fraction of a plain form, lost where the form is no fraction's.
-pub(super) fn of_plain(p: PlainFraction) -> Fraction
-    ensures { result ≡ of_plain p }
-{
-    if p.lost || !is_proper(p.numerator, p.denominator) {
-        return lost();
-    }
-    Fraction {
-        numerator: p.numerator,
-        denominator: p.denominator,
-        lost: false,
     }
 }
 

@@ -7,7 +7,7 @@ ghost use Rattle.fraction.specs.SameLemmas.{decides_meaning};
 ghost use Rattle.fraction.specs.Packs.{plain_back, plain_or_lost};
 
 use super::literal::of_literal;
-use super::made::{of_plain, of_whole};
+use super::made::of_whole;
 use super::{Fraction, PlainFraction};
 use number::{Exact, Literal, Number, Stage};
 
@@ -125,15 +125,11 @@ impl Number for Fraction {
     }
 
     fn to_plain(self) -> PlainFraction {
-        PlainFraction {
-            numerator: self.numerator,
-            denominator: self.denominator,
-            lost: self.lost,
-        }
+        PlainFraction::from(self)
     }
 
     fn from_plain(p: PlainFraction) -> Fraction {
-        of_plain(p)
+        Fraction::from(p)
     }
 }
 

@@ -2,8 +2,8 @@ use Rattle.std.proofs.Common.{sym, refl, ap, ◌∙◌, w64, SFits, rules}
 use Rattle.std.proofs.lemmas.Int.{to_z-of_z}
 use Rattle.fraction.specs.Fractions.{proper}
 use Rattle.fraction.specs.Packs.{lost_is, plain_lost, plain_unfit, plain_fit}
-use Rattle.fraction.proofs.fraction.made.of_plain.Goals as goal
-use Rattle.fraction.proofs.fraction.made.of_plain.Goals.{then-p-via-then-p, then-p-via-else-p+then-not-is_proper}
+use Rattle.fraction.proofs.fraction.plain.FractionFromPlainFraction.from.Goals as goal
+use Rattle.fraction.proofs.fraction.plain.FractionFromPlainFraction.from.Goals.{then-p-via-then-p, then-p-via-else-p+then-not-is_proper}
 
 pub returns-then-p : goal.returns-then-p
 returns-then-p c =
