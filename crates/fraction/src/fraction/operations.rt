@@ -11,6 +11,7 @@ use super::made::of_whole;
 use super::{Fraction, PlainFraction};
 use number::{Exact, Literal, Number, Stage};
 
+#[tactic(auto, using(crate::specs::Packs::packed))]
 impl Number for Fraction {
     type Plain = PlainFraction;
 

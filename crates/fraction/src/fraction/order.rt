@@ -31,28 +31,26 @@ impl Fraction {
         !self.lost && self.numerator == 1 && self.denominator == 1
     }
 
+    // The other where it wins, else self; lost where either is.
+    fn one_of(self, other: Fraction, other_wins: bool) -> Fraction
+        ensures { meaning_of result ≡ two lost (λ a b. fraction (if other_wins then b else a)) (meaning_of self) (meaning_of other) }
+    {
+        if self.lost || other.lost {
+            return lost();
+        }
+        if other_wins { other } else { self }
+    }
+
     pub(super) fn lesser(self, other: Fraction) -> Fraction
         ensures { meaning_of result ≡ two lost (λ a b. fraction (if exact.below b a then b else a)) (meaning_of self) (meaning_of other) }
     {
-        if self.lost || other.lost {
-            lost()
-        } else if other.is_less(self) {
-            other
-        } else {
-            self
-        }
+        self.one_of(other, other.is_less(self))
     }
 
     pub(super) fn greater(self, other: Fraction) -> Fraction
         ensures { meaning_of result ≡ two lost (λ a b. fraction (if exact.below a b then b else a)) (meaning_of self) (meaning_of other) }
     {
-        if self.lost || other.lost {
-            lost()
-        } else if self.is_less(other) {
-            other
-        } else {
-            self
-        }
+        self.one_of(other, self.is_less(other))
     }
 
     // The size of the nearest whole number, halves away from 0.

@@ -1,5 +1,0 @@
-use Rattle.fraction.specs.Packs.{packed}
-use Rattle.fraction.proofs.fraction.operations.FractionNumber.cbrt.Goals as goal
-
-pub returns : goal.returns
-returns c = packed _ c.cube_root.ensures
