@@ -1,5 +1,5 @@
 -- A signed number that is passed or cast comes by way of its bits; within the bound it stays what it is.
-use Rattle.std.proofs.Common.{◌≡◌, ℕ, ◌^◌, ◌<◌, ◌≤◌, ℤ, pos, negsuc, ◌+ℤ◌, ◌-ℤ◌, ◌*ℤ◌, neg_ℤ, nat_abs, sym, ap, ◌∙◌, subst, ap₂, subst₂, arith, w64, SFits, to_z, of_z}
+use Rattle.std.proofs.Common.{◌≡◌, ℕ, ◌^◌, ◌<◌, ◌≤◌, ℤ, pos, negsuc, ◌+ℤ◌, ◌-ℤ◌, ◌*ℤ◌, neg_ℤ, nat_abs, sym, ap, ◌∙◌, subst, ap₂, arith, w64, SFits, to_z, of_z}
 use native.Mathlib.Nat as N
 use borrow.Author.Differences.{ints}
 use mir.Syntax.{w128}
@@ -45,9 +45,6 @@ module _ (n : ℤ) (d : ℕ) (p : nat_abs n ≤ R) (q : d ≤ R) where
 
   fits : SFits w128 (n *ℤ pos d)
   fits = wide (n *ℤ pos d) (subst (λ z. z < 2 ^ 127) (sym (abs_product n (pos d))) (N.lt_of_le_of_lt (N.mul-le-mul p q) (omega arith)))
-
-  pub product-fits : SFits w128 (to_z w128 (of_z w128 (to_z w64 (of_z w64 n))) *ℤ to_z w128 d)
-  product-fits = subst₂ (λ x y. SFits w128 (x *ℤ y)) (sym left) (sym right) fits
 
   pub product_is : to_z w128 (of_z w128 (to_z w128 (of_z w128 (to_z w64 (of_z w64 n))) *ℤ to_z w128 d)) ≡ n *ℤ pos d
   product_is = ap₂ (λ x y. to_z w128 (of_z w128 (x *ℤ y))) left right ∙ to_z-of_z w128 (n *ℤ pos d) fits

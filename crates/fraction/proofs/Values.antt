@@ -29,17 +29,6 @@ at_values none f p q l m = λ i. two none f (cond (l i) lost (fraction (value_of
 pub at_value : {A : Type 0} (none : A) (f : Rational → A) (p : Fraction) → p.lost ≡ false → one none f (meaning_of p) ≡ f (value_of p)
 at_value none f p l = λ i. one none f (cond (l i) lost (fraction (value_of p)))
 
--- the second of two fractions where it is chosen, else the first
-pub chosen : (f : Rational → Rational → Bool) (p q : Fraction) (t : Bool) → t ≡ f (value_of p) (value_of q)
-    → two lost (λ a b. fraction (cond t b a)) (meaning_of p) (meaning_of q) ≡ two lost (λ a b. fraction (cond (f a b) b a)) (meaning_of p) (meaning_of q)
-chosen f p q t e = go p.lost q.lost
-  where
-    go : (l m : Bool) → two lost (λ a b. fraction (cond t b a)) (cond l lost (fraction (value_of p))) (cond m lost (fraction (value_of q)))
-        ≡ two lost (λ a b. fraction (cond (f a b) b a)) (cond l lost (fraction (value_of p))) (cond m lost (fraction (value_of q)))
-    go true m = refl
-    go false true = refl
-    go false false = λ i. fraction (cond (e i) (value_of q) (value_of p))
-
 -- the fraction with the numerator turned is the negative
 pub negative_means : (q : Fraction) (v : Rational) → num v ≡ neg_ℤ q.numerator → den v ≡ q.denominator → cond q.lost lost (fraction v) ≡ one lost (λ a. fraction (exact.neg a)) (meaning_of q)
 negative_means q v n d = go q.lost
