@@ -114,7 +114,7 @@ impl Number for Fraction {
     }
 
     fn is_direction(a: Fraction, b: Fraction) -> bool {
-        a.times(a).plus(b.times(b)).is_one()
+        a.times(a).plus(b.times(b)).same(of_whole(1))
     }
 
     fn nearest(self) -> Option<i32> {

@@ -1,11 +1,10 @@
-// Order, equality and nearest whole numbers of fractions.
+// Order and nearest whole numbers of fractions.
 ghost use Rattle.std.specs.Prelude.{◌≡◌, ◌+◌, ◌*◌, ◌/◌, pos, ◌*ℤ◌, if◌then◌else◌, unsigned_abs};
 ghost use Rattle.rational.specs.Rational.{exact};
 ghost use Rattle.number.specs.Exactness.{nearest_of};
 ghost use Rattle.number.specs.Meaning.{lost, fraction};
 ghost use Rattle.fraction.specs.Bounded.{two};
 ghost use Rattle.fraction.specs.Fractions.{meaning_of, value_of};
-ghost use Rattle.fraction.specs.Same.{same_meaning};
 
 use super::Fraction;
 use super::made::lost;
@@ -23,12 +22,6 @@ impl Fraction {
         ensures { result ≡ exact.below (value_of self) (value_of other) }
     {
         self.crossed(other) < other.crossed(self)
-    }
-
-    pub(super) fn is_one(self) -> bool
-        ensures { result ≡ same_meaning (meaning_of self) (fraction (exact.lit (pos 1) 0)) }
-    {
-        !self.lost && self.numerator == 1 && self.denominator == 1
     }
 
     // The other where it wins, else self; lost where either is.
