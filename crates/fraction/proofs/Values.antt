@@ -5,7 +5,7 @@ use native.Mathlib.Nat as N
 use lib.Signed.{non_neg}
 use Rattle.std.proofs.lemmas.Bool.{le-leb, lt-leb, leb-true, leb-false, and_from, and_left, and_right, cond-true, cond-false, eqb-false}
 use Rattle.rational.specs.Gcd.{gcd, gcd_reduced}
-use Rattle.rational.specs.Rational.{Rational, num, den, part, ratio_of, decimal, over, lit, reduce, reciprocal, quot_above, exact}
+use Rattle.rational.specs.Rational.{Rational, num, den, part, ratio_of, decimal, over, lit, reduce, reciprocal, quot_above, exact, computes}
 use Rattle.rational.specs.Nearest.{nearest}
 use Rattle.rational.specs.Parts.{Is, multiple, crosswise}
 use Rattle.rational.proofs.Parts.{parts_laws}
@@ -219,6 +219,10 @@ inverse_parts b s e z =
 pub whole-ratio : (z : ℤ) → one lost constant (ratio z 1) ≡ constant (exact.lit z 0)
 unfolding over lit
 whole-ratio z = ap constant (reduce_eq (ratio_of z 1 (N.zero-lt-suc 0)) (decimal z 0) refl)
+
+pub whole_one : constant (exact.lit (pos 1) 0) ≡ fraction (exact.lit (pos 1) 0)
+unfolding computes
+whole_one = refl
 
 -- the nearest one, by its size
 module _ (x : Rational) (k : ℕ) (k-is : k ≡ (2 * nat_abs (num x) + den x) / (2 * den x)) where

@@ -7,12 +7,9 @@ pub(crate) fn common_divisor(x: u64, y: u64) -> u64
     ensures value { result ≡ gcd x y }
     ensures above { 0 < y → 0 < result }
 {
-    let mut a = x;
-    let mut b = y;
+    let (mut a, mut b) = (x, y);
     while b != 0 {
-        let r = a % b;
-        a = b;
-        b = r;
+        (a, b) = (b, a % b);
     }
     a
 }

@@ -113,6 +113,7 @@ impl Number for Fraction {
         !self.lost && self.size() != 0
     }
 
+    #[tactic(auto, using(crate::proofs::Values::whole_one))]
     fn is_direction(a: Fraction, b: Fraction) -> bool {
         a.times(a).plus(b.times(b)).same(of_whole(1))
     }

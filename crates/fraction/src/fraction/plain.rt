@@ -38,8 +38,5 @@ impl From<PlainFraction> for Fraction {
 fn is_proper(n: i64, d: u64) -> bool
     ensures { result ≡ proper n d }
 {
-    if d == 0 || d > LIMIT || n.unsigned_abs() > LIMIT {
-        return false;
-    }
-    common_divisor(n.unsigned_abs(), d) == 1
+    0 < d && d <= LIMIT && n.unsigned_abs() <= LIMIT && common_divisor(n.unsigned_abs(), d) == 1
 }
