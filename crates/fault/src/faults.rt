@@ -83,8 +83,5 @@ impl From<RowFault> for BlockFault {
 pub fn at_index<T>(index: usize, answer: Result<T, TurnFault>) -> Result<T, Placed>
     ensures { result ≡ placed index answer }
 {
-    match answer {
-        Ok(x) => Ok(x),
-        Err(fault) => Err(Placed { index, fault }),
-    }
+    answer.map_err(|fault| Placed { index, fault })
 }

@@ -3,14 +3,16 @@ ghost use Rattle.std.specs.Prelude.{◌≡◌, Some, None};
 ghost use Rattle.fault.specs.Refusals.{refusal, of_number, of_turn, of_row, of_block, word_of, text_of};
 
 use crate::faults::{BlockFault, NumberFault, RowFault, TurnFault};
-use std::fmt;
+use std::fmt::{self, Display};
 
 /// What a fault tells: its number, the index of the entry in its row, and the trace of the spoiled number, its cause
 /// and its stage.
 #[derive(Clone, Copy)]
 pub struct Refusal {
+    // A number and not an enum, as the C interface and the listing show it; the kinds are the variants of the four faults.
     pub number: u8,
     pub index: Option<usize>,
+    // A pair of numbers, the form that every kind of number gives its trace.
     pub trace: Option<(u8, u8)>,
 }
 
@@ -57,14 +59,10 @@ impl RowFault {
     {
         match self {
             RowFault::Length => numbered(1, None),
-            RowFault::Entry(p) => {
-                let entry = p.fault.refusal();
-                Refusal {
-                    number: entry.number,
-                    index: Some(p.index),
-                    trace: entry.trace,
-                }
-            }
+            RowFault::Entry(p) => Refusal {
+                index: Some(p.index),
+                ..p.fault.refusal()
+            },
         }
     }
 }
@@ -99,7 +97,7 @@ fn word(number: u8) -> &'static str
     }
 }
 
-impl fmt::Display for Refusal {
+impl Display for Refusal {
     ghost output = { λ r. Some (text_of r) };
 
     fn fmt<W: fmt::Write>(&self, f: &mut fmt::Formatter<W>) -> fmt::Result {
@@ -109,38 +107,34 @@ impl fmt::Display for Refusal {
     }
 }
 
-impl fmt::Display for NumberFault {
+impl Display for NumberFault {
     ghost output = { λ f. Some (text_of (of_number f)) };
 
     fn fmt<W: fmt::Write>(&self, f: &mut fmt::Formatter<W>) -> fmt::Result {
-        let refusal = self.refusal();
-        write!(f, "{refusal}")
+        self.refusal().fmt(f)
     }
 }
 
-impl fmt::Display for TurnFault {
+impl Display for TurnFault {
     ghost output = { λ f. Some (text_of (of_turn f)) };
 
     fn fmt<W: fmt::Write>(&self, f: &mut fmt::Formatter<W>) -> fmt::Result {
-        let refusal = self.refusal();
-        write!(f, "{refusal}")
+        self.refusal().fmt(f)
     }
 }
 
-impl fmt::Display for RowFault {
+impl Display for RowFault {
     ghost output = { λ f. Some (text_of (of_row f)) };
 
     fn fmt<W: fmt::Write>(&self, f: &mut fmt::Formatter<W>) -> fmt::Result {
-        let refusal = self.refusal();
-        write!(f, "{refusal}")
+        self.refusal().fmt(f)
     }
 }
 
-impl fmt::Display for BlockFault {
+impl Display for BlockFault {
     ghost output = { λ f. Some (text_of (of_block f)) };
 
     fn fmt<W: fmt::Write>(&self, f: &mut fmt::Formatter<W>) -> fmt::Result {
-        let refusal = self.refusal();
-        write!(f, "{refusal}")
+        self.refusal().fmt(f)
     }
 }
