@@ -1,3 +1,4 @@
+pub mod Valves
 pub mod Ranges
 pub mod Fletcher
 pub mod Layout

@@ -5,6 +5,8 @@ mod block;
 mod checksum;
 mod reading;
 mod record;
+mod valve;
 
 pub use block::{Head, read, write};
 pub use reading::{Reading, check_row};
+pub use valve::Valve;
