@@ -1,3 +1,4 @@
+mod Chunks
 mod Steps
 mod Parts
 mod Verdicts
