@@ -55,6 +55,8 @@ pub enum BlockFault {
     Layout,
 }
 
+// The steps are written out, since the contract of each `?` reads `from_gives`, which no derive writes.
+
 impl From<NumberFault> for TurnFault {
     ghost from_gives = { λ f r. r ≡ InTurn f };
 

@@ -107,6 +107,8 @@ impl Display for Refusal {
     }
 }
 
+// Each fault prints as its refusal: one impl a fault, since a trait of std has no impl for every type with a `refusal`.
+
 impl Display for NumberFault {
     ghost output = { λ f. Some (text_of (of_number f)) };
 
