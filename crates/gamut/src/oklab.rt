@@ -17,6 +17,30 @@ pub struct Oklab<N> {
     pub b: N,
 }
 
+impl<N: Number> Oklab<N> {
+    /// The colour with each number in its plain form.
+    pub fn to_plain(self) -> Oklab<N::Plain>
+        ensures { result ≡ map_oklab N.plain self }
+    {
+        Oklab {
+            l: self.l.to_plain(),
+            a: self.a.to_plain(),
+            b: self.b.to_plain(),
+        }
+    }
+
+    /// The colour of plain forms.
+    pub fn from_plain(p: Oklab<N::Plain>) -> Oklab<N>
+        ensures { result ≡ map_oklab N.back p }
+    {
+        Oklab {
+            l: N::from_plain(p.l),
+            a: N::from_plain(p.a),
+            b: N::from_plain(p.b),
+        }
+    }
+}
+
 // Oklab to the cube roots of LMS.
 fn roots_of<N: Number>(c: Oklab<N>) -> Lms<N>
     ensures { result ≡ roots_of N.ops c }
