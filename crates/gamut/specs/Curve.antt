@@ -6,6 +6,10 @@ use Rattle.number.specs.Ops.{Ops, basic}
 use Rattle.number.specs.declared.fault.Stage.TheVariants.{Curve}
 use Rattle.gamut.specs.declared.chroma.ChromaValues.{ChromaValues}
 
+-- 1 − 0.8
+abbrev pub rest : {F : Type 0} → FieldOps F → F
+rest o = o.sub (o.lit (pos 1) 0) (knee o)
+
 -- the pieces, over a field's operations
 module _ {F : Type 0} (o : FieldOps F) (c : Three F) where
   infixl 60 ◌+◌ ◌-◌

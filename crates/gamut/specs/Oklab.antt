@@ -11,6 +11,29 @@ use Rattle.gamut.specs.declared.oklab.Oklab.{Oklab}
 use Rattle.gamut.specs.declared.rgb.LinSrgb.{LinSrgb}
 use Rattle.gamut.specs.declared.xyz.Xyz.{Xyz}
 
+-- three numbers in the order of each space
+module _ {N : Type 0} where
+  abbrev pub xyz_vector : Xyz N → Vec3 N
+  xyz_vector c = record { x = c.x; y = c.y; z = c.z }
+
+  abbrev pub to_xyz : Vec3 N → Xyz N
+  to_xyz v = record { x = v.x; y = v.y; z = v.z }
+
+  abbrev pub oklab_vector : Oklab N → Vec3 N
+  oklab_vector c = record { x = c.l; y = c.a; z = c.b }
+
+  abbrev pub to_oklab : Vec3 N → Oklab N
+  to_oklab v = record { l = v.x; a = v.y; b = v.z }
+
+  abbrev pub lms_vector : Lms N → Vec3 N
+  lms_vector c = record { x = c.l; y = c.m; z = c.s }
+
+  abbrev pub as_lms : Vec3 N → Lms N
+  as_lms v = record { l = v.x; m = v.y; s = v.z }
+
+  abbrev pub rgb_vector : LinSrgb N → Vec3 N
+  rgb_vector c = record { x = c.red; y = c.green; z = c.blue }
+
 module _ {N : Type 0} (o : Ops N) where
   infixl 60 ◌+◌ ◌-◌
   infixl 70 ◌*◌
@@ -96,21 +119,9 @@ module _ {N : Type 0} (o : Ops N) where
     third = record { x = literal (plus 10000000546724109177 19); y = literal (minus 89484182094965759684 21); z = literal (minus 12914855378640917399 19) };
   }
 
-  abbrev pub xyz_vector : Xyz N → Vec3 N
-  xyz_vector c = record { x = c.x; y = c.y; z = c.z }
-
-  abbrev pub oklab_vector : Oklab N → Vec3 N
-  oklab_vector c = record { x = c.l; y = c.a; z = c.b }
-
-  abbrev pub lms_vector : Lms N → Vec3 N
-  lms_vector c = record { x = c.l; y = c.m; z = c.s }
-
-  abbrev pub as_lms : Vec3 N → Lms N
-  as_lms v = record { l = v.x; m = v.y; s = v.z }
-
   -- three numbers as a colour, marked
   abbrev pub as_oklab : Vec3 N → Oklab N
-  as_oklab v = marked_oklab (record { l = v.x; a = v.y; b = v.z })
+  as_oklab v = marked_oklab (to_oklab v)
 
   abbrev pub as_xyz : Vec3 N → Xyz N
   as_xyz v = record { x = mark Matrix v.x; y = mark Matrix v.y; z = mark Matrix v.z }

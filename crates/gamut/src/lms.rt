@@ -1,8 +1,8 @@
 // The responses of the eye's long, medium and short cones.
 ghost use Rattle.std.specs.Prelude.{◌≡◌};
-ghost use Rattle.gamut.specs.Oklab.{cubes as cubes_of, cube_roots};
+ghost use Rattle.gamut.specs.Oklab.{lms_vector, as_lms};
 
-use number::{Number, cube};
+use crate::matrix::Vec3;
 
 /// The responses of the long, medium and short cones, or their cube roots.
 #[derive(Clone, Copy)]
@@ -12,24 +12,42 @@ pub struct Lms<N> {
     pub s: N,
 }
 
-// The cube of each number.
-pub(crate) fn cubes<N: Number>(c: Lms<N>) -> Lms<N>
-    ensures { result ≡ cubes_of N.ops c }
-{
-    Lms {
-        l: cube(c.l),
-        m: cube(c.m),
-        s: cube(c.s),
+impl<N: Copy> Lms<N> {
+    // A function at each number.
+    pub(crate) fn map<F: Fn(N) -> N>(self, f: F) -> Lms<N>
+        requires { F.IsAlwaysCallable f }
+        ensures l { F.post f self.l result.l }
+        ensures m { F.post f self.m result.m }
+        ensures s { F.post f self.s result.s }
+    {
+        Lms {
+            l: f(self.l),
+            m: f(self.m),
+            s: f(self.s),
+        }
     }
 }
 
-// The cube root of each number.
-pub(crate) fn cube_roots<N: Number>(c: Lms<N>) -> Lms<N>
-    ensures { result ≡ cube_roots N.ops c }
-{
-    Lms {
-        l: c.l.cbrt(),
-        m: c.m.cbrt(),
-        s: c.s.cbrt(),
+impl<N> From<Vec3<N>> for Lms<N> {
+    ghost from_gives = { λ v c. c ≡ as_lms v };
+
+    fn from(v: Vec3<N>) -> Lms<N> {
+        Lms {
+            l: v.x,
+            m: v.y,
+            s: v.z,
+        }
+    }
+}
+
+impl<N> From<Lms<N>> for Vec3<N> {
+    ghost from_gives = { λ c v. v ≡ lms_vector c };
+
+    fn from(c: Lms<N>) -> Vec3<N> {
+        Vec3 {
+            x: c.l,
+            y: c.m,
+            z: c.s,
+        }
     }
 }

@@ -1,13 +1,70 @@
 // Oklab, from linear sRGB and from XYZ, and back to linear sRGB.
 ghost use Rattle.std.specs.Prelude.{◌≡◌};
 ghost use Rattle.gamut.specs.Maps.{map_oklab, map_rgb, map_xyz};
-ghost use Rattle.gamut.specs.Oklab.{roots_of, lms_to_rgb, marked_rgb, oklab_to_linear_srgb, rgb_to_lms, roots_to_oklab, marked_oklab, linear_srgb_to_oklab, m1 as m1_of, m2 as m2_of, xyz_to_oklab};
+ghost use Rattle.gamut.specs.Oklab.{roots_of, lms_to_rgb, oklab_to_linear_srgb, rgb_to_lms, roots_to_oklab, linear_srgb_to_oklab, oklab_vector, to_oklab, xyz_to_oklab};
 
-use crate::lms::{Lms, cube_roots, cubes};
-use crate::matrix::{Mat3, Vec3, multiply_3x3_and_vec3};
+use crate::lms::Lms;
+use crate::matrix::{Mat3, Vec3};
 use crate::rgb::LinSrgb;
 use crate::xyz::Xyz;
-use number::{Literal, Number, Stage};
+use number::{Literal, Number, Stage, cube};
+
+// Linear sRGB to LMS.
+const RGB_TO_LMS: Mat3<Literal> = Mat3 {
+    first: Vec3 {
+        x: Literal::RgbLongR,
+        y: Literal::RgbLongG,
+        z: Literal::RgbLongB,
+    },
+    second: Vec3 {
+        x: Literal::RgbMediumR,
+        y: Literal::RgbMediumG,
+        z: Literal::RgbMediumB,
+    },
+    third: Vec3 {
+        x: Literal::RgbShortR,
+        y: Literal::RgbShortG,
+        z: Literal::RgbShortB,
+    },
+};
+
+// XYZ to LMS.
+const M1: Mat3<Literal> = Mat3 {
+    first: Vec3 {
+        x: Literal::ConeLX,
+        y: Literal::ConeLY,
+        z: Literal::ConeLZ,
+    },
+    second: Vec3 {
+        x: Literal::ConeMX,
+        y: Literal::ConeMY,
+        z: Literal::ConeMZ,
+    },
+    third: Vec3 {
+        x: Literal::ConeSX,
+        y: Literal::ConeSY,
+        z: Literal::ConeSZ,
+    },
+};
+
+// The cube roots of LMS to Oklab.
+const M2: Mat3<Literal> = Mat3 {
+    first: Vec3 {
+        x: Literal::LabLL,
+        y: Literal::LabLM,
+        z: Literal::MinusLabLS,
+    },
+    second: Vec3 {
+        x: Literal::LabAL,
+        y: Literal::MinusLabAM,
+        z: Literal::LabAS,
+    },
+    third: Vec3 {
+        x: Literal::LabBL,
+        y: Literal::LabBM,
+        z: Literal::MinusLabBS,
+    },
+};
 
 /// A colour in Oklab: lightness, green to red, blue to yellow.
 #[derive(Clone, Copy)]
@@ -17,29 +74,63 @@ pub struct Oklab<N> {
     pub b: N,
 }
 
+impl<N: Copy> Oklab<N> {
+    // A function at each number.
+    fn map<M, F: Fn(N) -> M>(self, f: F) -> Oklab<M>
+        requires { F.IsAlwaysCallable f }
+        ensures l { F.post f self.l result.l }
+        ensures a { F.post f self.a result.a }
+        ensures b { F.post f self.b result.b }
+    {
+        Oklab {
+            l: f(self.l),
+            a: f(self.a),
+            b: f(self.b),
+        }
+    }
+}
+
 impl<N: Number> Oklab<N> {
     /// The colour with each number in its plain form.
     pub fn to_plain(self) -> Oklab<N::Plain>
         ensures { result ≡ map_oklab N.plain self }
     {
-        Oklab {
-            l: self.l.to_plain(),
-            a: self.a.to_plain(),
-            b: self.b.to_plain(),
-        }
+        self.map(|x| x.to_plain())
     }
 
     /// The colour of plain forms.
     pub fn from_plain(p: Oklab<N::Plain>) -> Oklab<N>
         ensures { result ≡ map_oklab N.back p }
     {
+        p.map(|x| N::from_plain(x))
+    }
+}
+
+impl<N> From<Vec3<N>> for Oklab<N> {
+    ghost from_gives = { λ v c. c ≡ to_oklab v };
+
+    fn from(v: Vec3<N>) -> Oklab<N> {
         Oklab {
-            l: N::from_plain(p.l),
-            a: N::from_plain(p.a),
-            b: N::from_plain(p.b),
+            l: v.x,
+            a: v.y,
+            b: v.z,
         }
     }
 }
+
+impl<N> From<Oklab<N>> for Vec3<N> {
+    ghost from_gives = { λ c v. v ≡ oklab_vector c };
+
+    fn from(c: Oklab<N>) -> Vec3<N> {
+        Vec3 {
+            x: c.l,
+            y: c.a,
+            z: c.b,
+        }
+    }
+}
+
+// The sums below subtract, where a matrix would add a negative constant: two operations, of which a conversion names one.
 
 // Oklab to the cube roots of LMS.
 fn roots_of<N: Number>(c: Oklab<N>) -> Lms<N>
@@ -78,40 +169,18 @@ fn lms_to_rgb<N: Number>(c: Lms<N>) -> LinSrgb<N>
     LinSrgb { red, green, blue }
 }
 
-fn marked_rgb<N: Number>(c: LinSrgb<N>) -> LinSrgb<N>
-    ensures { result ≡ marked_rgb N.ops c }
-{
-    LinSrgb {
-        red: c.red.mark(Stage::Matrix),
-        green: c.green.mark(Stage::Matrix),
-        blue: c.blue.mark(Stage::Matrix),
-    }
-}
-
 /// The linear sRGB of a colour in Oklab.
 pub fn oklab_to_linear_srgb<N: Number>(c: Oklab<N>) -> LinSrgb<N>
     ensures value { result ≡ oklab_to_linear_srgb N.ops c }
     ensures meaning { map_rgb N.means result ≡ oklab_to_linear_srgb N.arith (map_oklab N.means c) }
 {
-    marked_rgb(lms_to_rgb(cubes(roots_of(c))))
+    lms_to_rgb(roots_of(c).map(|x| cube(x))).map(|x| x.mark(Stage::Matrix))
 }
 
 fn rgb_to_lms<N: Number>(c: LinSrgb<N>) -> Lms<N>
     ensures { result ≡ rgb_to_lms N.ops c }
 {
-    let l = N::literal(Literal::RgbLongR)
-        .mul(c.red)
-        .add(N::literal(Literal::RgbLongG).mul(c.green))
-        .add(N::literal(Literal::RgbLongB).mul(c.blue));
-    let m = N::literal(Literal::RgbMediumR)
-        .mul(c.red)
-        .add(N::literal(Literal::RgbMediumG).mul(c.green))
-        .add(N::literal(Literal::RgbMediumB).mul(c.blue));
-    let s = N::literal(Literal::RgbShortR)
-        .mul(c.red)
-        .add(N::literal(Literal::RgbShortG).mul(c.green))
-        .add(N::literal(Literal::RgbShortB).mul(c.blue));
-    Lms { l, m, s }
+    RGB_TO_LMS.numbers().times(Vec3::from(c)).into()
 }
 
 fn roots_to_oklab<N: Number>(c: Lms<N>) -> Oklab<N>
@@ -132,68 +201,12 @@ fn roots_to_oklab<N: Number>(c: Lms<N>) -> Oklab<N>
     Oklab { l, a, b }
 }
 
-fn marked_oklab<N: Number>(c: Oklab<N>) -> Oklab<N>
-    ensures { result ≡ marked_oklab N.ops c }
-{
-    Oklab {
-        l: c.l.mark(Stage::Matrix),
-        a: c.a.mark(Stage::Matrix),
-        b: c.b.mark(Stage::Matrix),
-    }
-}
-
 /// The Oklab of a colour in linear sRGB.
 pub fn linear_srgb_to_oklab<N: Number>(c: LinSrgb<N>) -> Oklab<N>
     ensures value { result ≡ linear_srgb_to_oklab N.ops c }
     ensures meaning { map_oklab N.means result ≡ linear_srgb_to_oklab N.arith (map_rgb N.means c) }
 {
-    marked_oklab(roots_to_oklab(cube_roots(rgb_to_lms(c))))
-}
-
-// XYZ to LMS.
-fn m1<N: Number>() -> Mat3<N>
-    ensures { result ≡ m1_of N.ops }
-{
-    Mat3 {
-        first: Vec3 {
-            x: N::literal(Literal::ConeLX),
-            y: N::literal(Literal::ConeLY),
-            z: N::literal(Literal::ConeLZ),
-        },
-        second: Vec3 {
-            x: N::literal(Literal::ConeMX),
-            y: N::literal(Literal::ConeMY),
-            z: N::literal(Literal::ConeMZ),
-        },
-        third: Vec3 {
-            x: N::literal(Literal::ConeSX),
-            y: N::literal(Literal::ConeSY),
-            z: N::literal(Literal::ConeSZ),
-        },
-    }
-}
-
-// The cube roots of LMS to Oklab.
-fn m2<N: Number>() -> Mat3<N>
-    ensures { result ≡ m2_of N.ops }
-{
-    Mat3 {
-        first: Vec3 {
-            x: N::literal(Literal::LabLL),
-            y: N::literal(Literal::LabLM),
-            z: N::literal(Literal::MinusLabLS),
-        },
-        second: Vec3 {
-            x: N::literal(Literal::LabAL),
-            y: N::literal(Literal::MinusLabAM),
-            z: N::literal(Literal::LabAS),
-        },
-        third: Vec3 {
-            x: N::literal(Literal::LabBL),
-            y: N::literal(Literal::LabBM),
-            z: N::literal(Literal::MinusLabBS),
-        },
-    }
+    roots_to_oklab(rgb_to_lms(c).map(|x| x.cbrt())).map(|x| x.mark(Stage::Matrix))
 }
 
 /// The Oklab of a colour in XYZ.
@@ -201,28 +214,8 @@ pub fn xyz_to_oklab<N: Number>(c: Xyz<N>) -> Oklab<N>
     ensures value { result ≡ xyz_to_oklab N.ops c }
     ensures meaning { map_oklab N.means result ≡ xyz_to_oklab N.arith (map_xyz N.means c) }
 {
-    let xyz = Vec3 {
-        x: c.x,
-        y: c.y,
-        z: c.z,
-    };
-    let lms = multiply_3x3_and_vec3(m1(), xyz);
-    let roots = cube_roots(Lms {
-        l: lms.x,
-        m: lms.y,
-        s: lms.z,
-    });
-    let lab = multiply_3x3_and_vec3(
-        m2(),
-        Vec3 {
-            x: roots.l,
-            y: roots.m,
-            z: roots.s,
-        },
-    );
-    marked_oklab(Oklab {
-        l: lab.x,
-        a: lab.y,
-        b: lab.z,
-    })
+    let lms = Lms::from(M1.numbers().times(Vec3::from(c)));
+    let roots = lms.map(|x| x.cbrt());
+    let lab = M2.numbers().times(Vec3::from(roots));
+    Oklab::from(lab.map(|x| x.mark(Stage::Matrix)))
 }

@@ -1,12 +1,50 @@
 // XYZ at the white point D65, and from Oklab.
 ghost use Rattle.std.specs.Prelude.{◌≡◌};
 ghost use Rattle.gamut.specs.Maps.{map_oklab, map_xyz};
-ghost use Rattle.gamut.specs.Oklab.{m1_inv, m2_inv, as_xyz, oklab_to_xyz};
+ghost use Rattle.gamut.specs.Oklab.{to_xyz, xyz_vector, oklab_to_xyz};
 
-use crate::lms::{Lms, cubes};
-use crate::matrix::{Mat3, Vec3, multiply_3x3_and_vec3};
+use crate::lms::Lms;
+use crate::matrix::{Mat3, Vec3};
 use crate::oklab::Oklab;
-use number::{Literal, Number, Stage};
+use number::{Literal, Number, Stage, cube};
+
+// LMS to XYZ.
+const M1_INV: Mat3<Literal> = Mat3 {
+    first: Vec3 {
+        x: Literal::XyzXL,
+        y: Literal::XyzXM,
+        z: Literal::XyzXS,
+    },
+    second: Vec3 {
+        x: Literal::XyzYL,
+        y: Literal::XyzYM,
+        z: Literal::XyzYS,
+    },
+    third: Vec3 {
+        x: Literal::XyzZL,
+        y: Literal::XyzZM,
+        z: Literal::XyzZS,
+    },
+};
+
+// Oklab to the cube roots of LMS.
+const M2_INV: Mat3<Literal> = Mat3 {
+    first: Vec3 {
+        x: Literal::RootLL,
+        y: Literal::RootLA,
+        z: Literal::RootLB,
+    },
+    second: Vec3 {
+        x: Literal::RootML,
+        y: Literal::RootMA,
+        z: Literal::RootMB,
+    },
+    third: Vec3 {
+        x: Literal::RootSL,
+        y: Literal::RootSA,
+        z: Literal::RootSB,
+    },
+};
 
 /// A colour in XYZ, relative to the white point D65.
 #[derive(Clone, Copy)]
@@ -16,59 +54,27 @@ pub struct Xyz<N> {
     pub z: N,
 }
 
-// LMS to XYZ.
-fn m1_inv<N: Number>() -> Mat3<N>
-    ensures { result ≡ m1_inv N.ops }
-{
-    Mat3 {
-        first: Vec3 {
-            x: N::literal(Literal::XyzXL),
-            y: N::literal(Literal::XyzXM),
-            z: N::literal(Literal::XyzXS),
-        },
-        second: Vec3 {
-            x: N::literal(Literal::XyzYL),
-            y: N::literal(Literal::XyzYM),
-            z: N::literal(Literal::XyzYS),
-        },
-        third: Vec3 {
-            x: N::literal(Literal::XyzZL),
-            y: N::literal(Literal::XyzZM),
-            z: N::literal(Literal::XyzZS),
-        },
+impl<N> From<Vec3<N>> for Xyz<N> {
+    ghost from_gives = { λ v c. c ≡ to_xyz v };
+
+    fn from(v: Vec3<N>) -> Xyz<N> {
+        Xyz {
+            x: v.x,
+            y: v.y,
+            z: v.z,
+        }
     }
 }
 
-// Oklab to the cube roots of LMS.
-fn m2_inv<N: Number>() -> Mat3<N>
-    ensures { result ≡ m2_inv N.ops }
-{
-    Mat3 {
-        first: Vec3 {
-            x: N::literal(Literal::RootLL),
-            y: N::literal(Literal::RootLA),
-            z: N::literal(Literal::RootLB),
-        },
-        second: Vec3 {
-            x: N::literal(Literal::RootML),
-            y: N::literal(Literal::RootMA),
-            z: N::literal(Literal::RootMB),
-        },
-        third: Vec3 {
-            x: N::literal(Literal::RootSL),
-            y: N::literal(Literal::RootSA),
-            z: N::literal(Literal::RootSB),
-        },
-    }
-}
+impl<N> From<Xyz<N>> for Vec3<N> {
+    ghost from_gives = { λ c v. v ≡ xyz_vector c };
 
-fn marked<N: Number>(v: Vec3<N>) -> Xyz<N>
-    ensures { result ≡ as_xyz N.ops v }
-{
-    Xyz {
-        x: v.x.mark(Stage::Matrix),
-        y: v.y.mark(Stage::Matrix),
-        z: v.z.mark(Stage::Matrix),
+    fn from(c: Xyz<N>) -> Vec3<N> {
+        Vec3 {
+            x: c.x,
+            y: c.y,
+            z: c.z,
+        }
     }
 }
 
@@ -77,24 +83,8 @@ pub fn oklab_to_xyz<N: Number>(c: Oklab<N>) -> Xyz<N>
     ensures value { result ≡ oklab_to_xyz N.ops c }
     ensures meaning { map_xyz N.means result ≡ oklab_to_xyz N.arith (map_oklab N.means c) }
 {
-    let lab = Vec3 {
-        x: c.l,
-        y: c.a,
-        z: c.b,
-    };
-    let roots = multiply_3x3_and_vec3(m2_inv(), lab);
-    let lms = cubes(Lms {
-        l: roots.x,
-        m: roots.y,
-        s: roots.z,
-    });
-    let xyz = multiply_3x3_and_vec3(
-        m1_inv(),
-        Vec3 {
-            x: lms.l,
-            y: lms.m,
-            z: lms.s,
-        },
-    );
-    marked(xyz)
+    let roots = Lms::from(M2_INV.numbers().times(Vec3::from(c)));
+    let lms = roots.map(|x| cube(x));
+    let xyz = M1_INV.numbers().times(Vec3::from(lms));
+    Xyz::from(xyz.map(|x| x.mark(Stage::Matrix)))
 }

@@ -1,4 +1,4 @@
-use mathlib.Core.Path.{◌≡◌, ap, ◌∙◌}
+use mathlib.Core.Path.{◌≡◌}
 use borrow.Author.Rules.{rules}
 use Rattle.gamut.specs.Curve.{saturation}
 use Rattle.gamut.proofs.CurveMeans.{saturation-means}
@@ -6,6 +6,5 @@ use Rattle.gamut.proofs.curve.saturation_of.Goals as goal
 
 pub returns : goal.returns
 returns g c =
-    let n = g.N.Number in
-    let e : c.mark.result ≡ saturation n.ops c.args.values c.args.chroma = search rules in
-    record { value = e; meaning = ap n.means e ∙ saturation-means g.met.N.Number.hom c.args.values c.args.chroma }
+    let e : c.mark.result ≡ saturation g.N.Number.ops c.args.values c.args.chroma = search rules in
+    record { value = e; meaning = rw e (saturation-means g.met.N.Number.hom c.args.values c.args.chroma) }

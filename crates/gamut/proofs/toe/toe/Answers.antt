@@ -1,4 +1,4 @@
-use mathlib.Core.Path.{◌≡◌, ap, ◌∙◌}
+use mathlib.Core.Path.{◌≡◌}
 use borrow.Author.Rules.{rules}
 use Rattle.gamut.specs.Toe.{toe}
 use Rattle.gamut.proofs.ToeMeans.{toe-means}
@@ -6,6 +6,5 @@ use Rattle.gamut.proofs.toe.toe.Goals as goal
 
 pub returns : goal.returns
 returns g c =
-    let n = g.N.Number in
-    let e : c.mark.result ≡ toe n.ops c.args.lightness = search rules in
-    record { value = e; meaning = ap n.means e ∙ toe-means g.met.N.Number.hom c.args.lightness }
+    let e : c.mark.result ≡ toe g.N.Number.ops c.args.lightness = search rules in
+    record { value = e; meaning = rw e (toe-means g.met.N.Number.hom c.args.lightness) }
