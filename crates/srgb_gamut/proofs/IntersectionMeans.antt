@@ -9,7 +9,7 @@ use Rattle.gamut.specs.declared.lms.Lms.{Lms}
 use Rattle.srgb_gamut.specs.Intersection.{stride, shortest, step, upper, intersection}
 use Rattle.srgb_gamut.specs.declared.cusp.LC.{LC}
 use Rattle.srgb_gamut.specs.declared.intersection.Line.{Line}
-use Rattle.srgb_gamut.specs.declared.saturation.Jet.{Jet}
+use Rattle.srgb_gamut.specs.declared.jet.Jet.{Jet}
 use Rattle.srgb_gamut.proofs.Maps.{map_lms, map_lc, map_jet, map_line}
 
 module _ {N M : Type 0} {f : N → M} {o : Ops N} {p : Ops M} (h : Hom f o p) where

@@ -3,7 +3,7 @@ use Rattle.gamut.specs.declared.lms.Lms.{Lms}
 use Rattle.srgb_gamut.specs.declared.cusp.LC.{LC}
 use Rattle.srgb_gamut.specs.declared.intersection.Line.{Line}
 use Rattle.srgb_gamut.specs.declared.saturation.Fit.{Fit}
-use Rattle.srgb_gamut.specs.declared.saturation.Jet.{Jet}
+use Rattle.srgb_gamut.specs.declared.jet.Jet.{Jet}
 
 module _ {N M : Type 0} (f : N → M) where
   abbrev pub map_lms : Lms N → Lms M

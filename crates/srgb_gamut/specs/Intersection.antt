@@ -8,7 +8,7 @@ use Rattle.gamut.specs.declared.direction.Direction.{Direction}
 use Rattle.gamut.specs.declared.lms.Lms.{Lms}
 use Rattle.srgb_gamut.specs.declared.cusp.LC.{LC}
 use Rattle.srgb_gamut.specs.declared.intersection.Line.{Line}
-use Rattle.srgb_gamut.specs.declared.saturation.Jet.{Jet}
+use Rattle.srgb_gamut.specs.declared.jet.Jet.{Jet}
 
 module _ {N : Type 0} (o : Ops N) where
   infixl 60 ◌+◌ ◌-◌
@@ -18,6 +18,10 @@ module _ {N : Type 0} (o : Ops N) where
   -- the line meets the lower side of the triangle below the cusp
   abbrev pub is_lower : Line N → LC N → Bool
   is_lower x c = le ((x.l1 - x.l0) * c.chroma - (c.lightness - x.l0) * x.c1) (whole (pos 0))
+
+  -- where the line meets a side: the lightnesses of l0 and of the cusp are counted from the side's end
+  abbrev pub meeting : Line N → (chroma start cusp : N) → N
+  meeting x chroma start cusp = chroma * start / (x.c1 * cusp + chroma * (x.l0 - x.l1))
 
   abbrev pub lower : Line N → LC N → N
   lower x c = c.chroma * x.l0 / (x.c1 * c.lightness + c.chroma * (x.l0 - x.l1))

@@ -1,3 +1,4 @@
+pub mod Jet
 pub mod Saturation
 pub mod Cusp
 pub mod Intersection

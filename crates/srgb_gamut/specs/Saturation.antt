@@ -1,18 +1,23 @@
 -- The largest saturation of a hue in sRGB, where one of the channels falls to 0.
 use Rattle.std.specs.Prelude.{Bool, true, false, pos}
-use Rattle.number.specs.Decimals.{plus, minus}
+use Rattle.number.specs.Decimals.{decimal, plus, minus}
 use Rattle.number.specs.Formulas.{square, cube}
 use Rattle.number.specs.Ops.{Ops}
 use Rattle.number.specs.declared.fault.Stage.TheVariants.{Cusp}
+use Rattle.number.specs.declared.literal.Literal.{Literal}
 use Rattle.gamut.specs.declared.direction.Direction.{Direction}
 use Rattle.gamut.specs.declared.lms.Lms.{Lms}
 use Rattle.srgb_gamut.specs.declared.saturation.Fit.{Fit}
-use Rattle.srgb_gamut.specs.declared.saturation.Jet.{Jet}
+use Rattle.srgb_gamut.specs.declared.jet.Jet.{Jet}
 
 module _ {N : Type 0} (o : Ops N) where
   infixl 60 ◌+◌ ◌-◌
   infixl 70 ◌*◌ ◌/◌
   open o use {add as ◌+◌, sub as ◌-◌, mul as ◌*◌, div as ◌/◌, whole, literal, mark, lt}
+
+  -- the test on a direction by which a channel falls to 0 first
+  abbrev pub falls_first : (a b : Literal) → Direction N → Bool
+  falls_first a b h = lt (whole (pos 1)) (literal (decimal a) * h.a - literal (decimal b) * h.b)
 
   -- which channel falls to 0 first
   abbrev pub red_first : Direction N → Bool
@@ -20,6 +25,17 @@ module _ {N : Type 0} (o : Ops N) where
 
   abbrev pub green_first : Direction N → Bool
   green_first h = lt (whole (pos 1)) (literal (plus 181444104 8) * h.a - literal (plus 119445276 8) * h.b)
+
+  -- constants as numbers of a kind
+  abbrev pub fit_numbers : Fit Literal → Fit N
+  fit_numbers k = record {
+    k0 = literal (decimal k.k0);
+    k1 = literal (decimal k.k1);
+    k2 = literal (decimal k.k2);
+    k3 = literal (decimal k.k3);
+    k4 = literal (decimal k.k4);
+    weights = record { l = literal (decimal k.weights.l); m = literal (decimal k.weights.m); s = literal (decimal k.weights.s) };
+  }
 
   -- for each channel the coefficients of a polynomial, and the weights of LMS in the channel
   abbrev pub red_fit : Fit N

@@ -47,6 +47,9 @@ module _ {N : Type 0} (o : Ops N) where
   abbrev pub sides : ST N → N → Sides N
   sides x l = record { lower = l * x.s; upper = (one - l) * x.t }
 
+  abbrev pub parallel : Sides N → N
+  parallel c = one / (one / c.lower + one / c.upper)
+
   -- soft minima, by the second and by the fourth power, in place of the triangle's sharp one
   abbrev pub soft_min2 : Sides N → N
   soft_min2 c = sqrt (one / (one / (c.lower * c.lower) + one / (c.upper * c.upper)))

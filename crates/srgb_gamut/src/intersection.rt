@@ -1,12 +1,14 @@
 // Where a line in the plane of a hue leaves sRGB: L = l0 (1 − t) + t l1, C = t c1.
-ghost use Rattle.std.specs.Prelude.{◌≡◌};
-ghost use Rattle.srgb_gamut.specs.Intersection.{is_lower, lower as lower_of, triangle as triangle_of, slopes_along, along as along_of, roots_at, cube_along, red_sum, green_sum, blue_sum, channel, stride_by, stride as stride_of, shortest as shortest_of, step as step_of, upper as upper_of, intersection};
+ghost use Rattle.std.specs.Prelude.{◌≡◌, pos};
+ghost use Rattle.srgb_gamut.specs.Jet.{values_of, firsts_of, seconds_of};
+ghost use Rattle.srgb_gamut.specs.Intersection.{is_lower, meeting, lower as lower_of, triangle as triangle_of, slopes_along, along as along_of, roots_at, cube_along, red_sum, green_sum, blue_sum, stride_by, stride as stride_of, shortest as shortest_of, step as step_of, upper as upper_of, intersection};
 
 use crate::cusp::LC;
-use crate::saturation::Jet;
+use crate::jet::{Jet, linear};
+use crate::lms::{each, slopes_by};
 use gamut::direction::Direction;
 use gamut::lms::Lms;
-use number::{Literal, Number, Stage, cube, square};
+use number::{Literal, Number, Stage, cube};
 
 /// A line from (l0, 0) through (l1, c1), lightness first.
 #[derive(Clone, Copy)]
@@ -16,64 +18,57 @@ pub struct Line<N> {
     pub l0: N,
 }
 
-// Whether the line meets the lower side of the triangle, below the cusp.
-fn is_lower<N: Number>(x: Line<N>, c: LC<N>) -> bool
-    ensures { result ≡ is_lower N.ops x c }
-{
-    x.l1.sub(x.l0)
-        .mul(c.chroma)
-        .sub(c.lightness.sub(x.l0).mul(x.c1))
-        .le(N::whole(0))
+impl<N: Number> Line<N> {
+    // Whether the line meets the lower side of the triangle, below the cusp.
+    fn is_lower(self, cusp: LC<N>) -> bool
+        ensures { result ≡ is_lower N.ops self cusp }
+    {
+        self.l1
+            .sub(self.l0)
+            .mul(cusp.chroma)
+            .sub(cusp.lightness.sub(self.l0).mul(self.c1))
+            .le(N::whole(0))
+    }
+
+    // Where it meets a side of the triangle: the lightnesses of l0 and of the cusp are counted from the side's end.
+    fn meeting(self, chroma: N, start: N, cusp: N) -> N
+        ensures { result ≡ meeting N.ops self chroma start cusp }
+    {
+        let below = self.c1.mul(cusp).add(chroma.mul(self.l0.sub(self.l1)));
+        chroma.mul(start).div(below)
+    }
+
+    // Where it meets the lower side, which is straight in sRGB too.
+    fn lower(self, cusp: LC<N>) -> N
+        ensures { result ≡ lower_of N.ops self cusp }
+    {
+        self.meeting(cusp.chroma, self.l0, cusp.lightness)
+    }
+
+    // Where it meets the upper side of the triangle.
+    fn triangle(self, cusp: LC<N>) -> N
+        ensures { result ≡ triangle_of N.ops self cusp }
+    {
+        let one = N::whole(1);
+        self.meeting(cusp.chroma, self.l0.sub(one), cusp.lightness.sub(one))
+    }
 }
 
-// Where it meets that side, which is straight in sRGB too.
-fn lower<N: Number>(x: Line<N>, c: LC<N>) -> N
-    ensures { result ≡ lower_of N.ops x c }
-{
-    c.chroma
-        .mul(x.l0)
-        .div(x.c1.mul(c.lightness).add(c.chroma.mul(x.l0.sub(x.l1))))
-}
-
-// Where it meets the upper side of the triangle.
-fn triangle<N: Number>(x: Line<N>, c: LC<N>) -> N
-    ensures { result ≡ triangle_of N.ops x c }
-{
-    let one = N::whole(1);
-    let below = x
-        .c1
-        .mul(c.lightness.sub(one))
-        .add(c.chroma.mul(x.l0.sub(x.l1)));
-    c.chroma.mul(x.l0.sub(one)).div(below)
-}
-
-// How fast the cube roots of LMS change with the chroma.
 fn slopes<N: Number>(h: Direction<N>) -> Lms<N>
     ensures { result ≡ slopes_along N.ops h }
 {
-    let l = N::literal(Literal::LongA)
-        .mul(h.a)
-        .add(N::literal(Literal::LongB).mul(h.b));
-    let m = N::literal(Literal::MediumA)
-        .neg()
-        .mul(h.a)
-        .sub(N::literal(Literal::MediumB).mul(h.b));
-    let s = N::literal(Literal::ShortA)
-        .neg()
-        .mul(h.a)
-        .sub(N::literal(Literal::ShortB).mul(h.b));
-    Lms { l, m, s }
+    slopes_by(
+        N::literal(Literal::MediumA).neg(),
+        N::literal(Literal::ShortA).neg(),
+        h,
+    )
 }
 
 // x + y k at each of the slopes k.
 fn along<N: Number>(x: N, y: N, k: Lms<N>) -> Lms<N>
     ensures { result ≡ along_of N.ops x y k }
 {
-    Lms {
-        l: x.add(y.mul(k.l)),
-        m: x.add(y.mul(k.m)),
-        s: x.add(y.mul(k.s)),
-    }
+    each(k, |k| x.add(y.mul(k)))
 }
 
 // The cube roots of LMS at t.
@@ -85,7 +80,7 @@ fn roots_at<N: Number>(t: N, x: Line<N>, k: Lms<N>) -> Lms<N>
     along(lightness, chroma, k)
 }
 
-// The cube of x, which grows by d, with its derivatives.
+// The cube of x, which grows by d, with its derivatives; the products go in another order than in `cube_of_saturation`.
 fn cube_along<N: Number>(x: N, d: N) -> Jet<N>
     ensures { result ≡ cube_along N.ops x d }
 {
@@ -96,64 +91,47 @@ fn cube_along<N: Number>(x: N, d: N) -> Jet<N>
     }
 }
 
-// Each channel as a sum over LMS.
-fn red_sum<N: Number>(l: N, m: N, s: N) -> N
-    ensures { result ≡ red_sum N.ops l m s }
+// Each channel as a sum over LMS: it differs from channel to channel which constant is negated and which product subtracted.
+fn red_sum<N: Number>(c: Lms<N>) -> N
+    ensures { result ≡ red_sum N.ops c.l c.m c.s }
 {
-    let x = N::literal(Literal::RedL)
-        .mul(l)
-        .sub(N::literal(Literal::RedM).mul(m));
-    x.add(N::literal(Literal::RedS).mul(s))
+    N::literal(Literal::RedL)
+        .mul(c.l)
+        .sub(N::literal(Literal::RedM).mul(c.m))
+        .add(N::literal(Literal::RedS).mul(c.s))
 }
 
-fn green_sum<N: Number>(l: N, m: N, s: N) -> N
-    ensures { result ≡ green_sum N.ops l m s }
+fn green_sum<N: Number>(c: Lms<N>) -> N
+    ensures { result ≡ green_sum N.ops c.l c.m c.s }
 {
-    let x = N::literal(Literal::GreenL)
+    N::literal(Literal::GreenL)
         .neg()
-        .mul(l)
-        .add(N::literal(Literal::GreenM).mul(m));
-    x.sub(N::literal(Literal::GreenS).mul(s))
+        .mul(c.l)
+        .add(N::literal(Literal::GreenM).mul(c.m))
+        .sub(N::literal(Literal::GreenS).mul(c.s))
 }
 
-fn blue_sum<N: Number>(l: N, m: N, s: N) -> N
-    ensures { result ≡ blue_sum N.ops l m s }
+fn blue_sum<N: Number>(c: Lms<N>) -> N
+    ensures { result ≡ blue_sum N.ops c.l c.m c.s }
 {
-    let x = N::literal(Literal::BlueL)
+    N::literal(Literal::BlueL)
         .neg()
-        .mul(l)
-        .sub(N::literal(Literal::BlueM).mul(m));
-    x.add(N::literal(Literal::BlueS).mul(s))
+        .mul(c.l)
+        .sub(N::literal(Literal::BlueM).mul(c.m))
+        .add(N::literal(Literal::BlueS).mul(c.s))
 }
 
-// How far each channel is from 1, with its derivatives.
-fn red<N: Number>(l: Jet<N>, m: Jet<N>, s: Jet<N>) -> Jet<N>
-    ensures { result ≡ channel N.ops (red_sum N.ops) l m s }
+// How far a channel, a sum over LMS, is from 1, with its derivatives.
+fn channel<N: Number, F: Fn(Lms<N>) -> N>(c: Lms<Jet<N>>, sum: F) -> Jet<N>
+    requires { F.IsAlwaysCallable sum }
+    ensures value { (x : N) × F.post sum (values_of c) x × (result.value ≡ N.ops.sub x (N.ops.whole (pos 1))) }
+    ensures first { F.post sum (firsts_of c) result.first }
+    ensures second { F.post sum (seconds_of c) result.second }
 {
+    let sums = linear(c, sum);
     Jet {
-        value: red_sum(l.value, m.value, s.value).sub(N::whole(1)),
-        first: red_sum(l.first, m.first, s.first),
-        second: red_sum(l.second, m.second, s.second),
-    }
-}
-
-fn green<N: Number>(l: Jet<N>, m: Jet<N>, s: Jet<N>) -> Jet<N>
-    ensures { result ≡ channel N.ops (green_sum N.ops) l m s }
-{
-    Jet {
-        value: green_sum(l.value, m.value, s.value).sub(N::whole(1)),
-        first: green_sum(l.first, m.first, s.first),
-        second: green_sum(l.second, m.second, s.second),
-    }
-}
-
-fn blue<N: Number>(l: Jet<N>, m: Jet<N>, s: Jet<N>) -> Jet<N>
-    ensures { result ≡ channel N.ops (blue_sum N.ops) l m s }
-{
-    Jet {
-        value: blue_sum(l.value, m.value, s.value).sub(N::whole(1)),
-        first: blue_sum(l.first, m.first, s.first),
-        second: blue_sum(l.second, m.second, s.second),
+        value: sums.value.sub(N::whole(1)),
+        ..sums
     }
 }
 
@@ -172,26 +150,28 @@ fn stride_by<N: Number>(u: N, value: N) -> N
 fn stride<N: Number>(j: Jet<N>) -> N
     ensures { result ≡ stride_of N.ops j }
 {
-    let below = square(j.first).sub(N::literal(Literal::Half).mul(j.value).mul(j.second));
-    stride_by(j.first.div(below), j.value)
+    stride_by(j.first.div(j.halley_divisor()), j.value)
 }
 
 // The step of the channel that is 1 first.
-fn shortest<N: Number>(l: Jet<N>, m: Jet<N>, s: Jet<N>) -> N
-    ensures { result ≡ shortest_of N.ops l m s }
+fn shortest<N: Number>(c: Lms<Jet<N>>) -> N
+    ensures { result ≡ shortest_of N.ops c.l c.m c.s }
 {
-    stride(red(l, m, s)).min(stride(green(l, m, s)).min(stride(blue(l, m, s))))
+    let red = stride(channel(c, |x| red_sum(x)));
+    let green = stride(channel(c, |x| green_sum(x)));
+    let blue = stride(channel(c, |x| blue_sum(x)));
+    red.min(green.min(blue))
 }
 
 // x: the cube roots of LMS, which grow by d.
 fn step<N: Number>(x: Lms<N>, d: Lms<N>) -> N
     ensures { result ≡ step_of N.ops x d }
 {
-    shortest(
-        cube_along(x.l, d.l),
-        cube_along(x.m, d.m),
-        cube_along(x.s, d.s),
-    )
+    shortest(Lms {
+        l: cube_along(x.l, d.l),
+        m: cube_along(x.m, d.m),
+        s: cube_along(x.s, d.s),
+    })
 }
 
 // From t, where the line meets the triangle, to the curved upper side of sRGB.
@@ -203,13 +183,13 @@ fn upper<N: Number>(t: N, k: Lms<N>, x: Line<N>) -> N
 }
 
 // The t at which a line in the plane of a hue leaves sRGB.
-pub(crate) fn find_gamut_intersection<N: Number>(h: Direction<N>, x: Line<N>, c: LC<N>) -> N
-    ensures { result ≡ intersection N.ops h x c }
+pub(crate) fn find_gamut_intersection<N: Number>(h: Direction<N>, x: Line<N>, cusp: LC<N>) -> N
+    ensures { result ≡ intersection N.ops h x cusp }
 {
-    let t = if is_lower(x, c) {
-        lower(x, c)
+    let t = if x.is_lower(cusp) {
+        x.lower(cusp)
     } else {
-        upper(triangle(x, c), slopes(h), x)
+        upper(x.triangle(cusp), slopes(h), x)
     };
     t.mark(Stage::Intersection)
 }

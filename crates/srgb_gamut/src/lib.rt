@@ -4,6 +4,8 @@
 mod chroma;
 mod cusp;
 mod intersection;
+mod jet;
+mod lms;
 mod saturation;
 mod triangle;
 

@@ -1,6 +1,6 @@
 // The triangle that approximates a hue's part of sRGB: lightness from 0 to 1, and chroma up to the cusp.
 ghost use Rattle.std.specs.Prelude.{◌≡◌};
-ghost use Rattle.srgb_gamut.specs.Triangle.{st_of, mid_s, mid_t, mid as mid_of, sides as sides_of, soft_min2, soft_min4};
+ghost use Rattle.srgb_gamut.specs.Triangle.{st_of, mid_s, mid_t, mid as mid_of, sides as sides_of, parallel, soft_min2, soft_min4};
 
 use crate::cusp::LC;
 use gamut::direction::Direction;
@@ -20,6 +20,7 @@ pub struct Sides<N> {
     pub upper: N,
 }
 
+// Nested polynomials in a, whose products are added in one and subtracted in the other: each stands as a formula.
 fn mid_s<N: Number>(h: Direction<N>) -> N
     ensures { result ≡ mid_s N.ops h }
 {
@@ -92,23 +93,40 @@ impl<N: Number> ST<N> {
 }
 
 impl<N: Number> Sides<N> {
+    // A function at each side.
+    fn map<F: Fn(N) -> N>(self, f: F) -> Sides<N>
+        requires { F.IsAlwaysCallable f }
+        ensures lower { F.post f self.lower result.lower }
+        ensures upper { F.post f self.upper result.upper }
+    {
+        Sides {
+            lower: f(self.lower),
+            upper: f(self.upper),
+        }
+    }
+
+    // 1 ÷ (1 ÷ lower + 1 ÷ upper)
+    fn parallel(self) -> N
+        ensures { result ≡ parallel N.ops self }
+    {
+        let one = N::whole(1);
+        one.div(one.div(self.lower).add(one.div(self.upper)))
+    }
+
     // A soft minimum by the second power.
     pub(crate) fn soft_min2(self) -> N
         ensures { result ≡ soft_min2 N.ops self }
     {
-        let one = N::whole(1);
-        let lower = one.div(self.lower.mul(self.lower));
-        let upper = one.div(self.upper.mul(self.upper));
-        one.div(lower.add(upper)).sqrt()
+        self.map(|x| x.mul(x)).parallel().sqrt()
     }
 
     // A soft minimum by the fourth power.
     pub(crate) fn soft_min4(self) -> N
         ensures { result ≡ soft_min4 N.ops self }
     {
-        let one = N::whole(1);
-        let lower = one.div(self.lower.mul(self.lower).mul(self.lower).mul(self.lower));
-        let upper = one.div(self.upper.mul(self.upper).mul(self.upper).mul(self.upper));
-        one.div(lower.add(upper)).sqrt().sqrt()
+        self.map(|x| x.mul(x).mul(x).mul(x))
+            .parallel()
+            .sqrt()
+            .sqrt()
     }
 }
