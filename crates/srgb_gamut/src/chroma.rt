@@ -44,6 +44,7 @@ fn level<N: Number>(lightness: N) -> Line<N>
     }
 }
 
+#[tactic(auto, unfolding(crate::specs::Chroma::values_at))]
 fn values_at<N: Number>(lightness: N, h: Direction<N>, cusp: LC<N>, max: N) -> ChromaValues<N>
     ensures { result ≡ values_at N.ops lightness h cusp max }
 {

@@ -43,6 +43,7 @@ fn cusp_at<N: Number>(s: N, c: LinSrgb<N>) -> LC<N>
 
 impl<N: Number> LC<N> {
     /// The cusp of a hue.
+    #[tactic(auto, unfolding(crate::specs::Cusp::cusp))]
     pub fn find_cusp(h: Direction<N>) -> LC<N>
         ensures { result ≡ cusp N.ops h }
     {

@@ -147,6 +147,7 @@ fn stride_by<N: Number>(u: N, value: N) -> N
 }
 
 // One step of Halley's method to where a channel is 1.
+#[tactic(auto, unfolding(crate::specs::Intersection::stride))]
 fn stride<N: Number>(j: Jet<N>) -> N
     ensures { result ≡ stride_of N.ops j }
 {
@@ -154,6 +155,7 @@ fn stride<N: Number>(j: Jet<N>) -> N
 }
 
 // The step of the channel that is 1 first.
+#[tactic(auto, unfolding(crate::specs::Intersection::shortest))]
 fn shortest<N: Number>(c: Lms<Jet<N>>) -> N
     ensures { result ≡ shortest_of N.ops c.l c.m c.s }
 {
@@ -164,6 +166,7 @@ fn shortest<N: Number>(c: Lms<Jet<N>>) -> N
 }
 
 // x: the cube roots of LMS, which grow by d.
+#[tactic(auto, unfolding(crate::specs::Intersection::step))]
 fn step<N: Number>(x: Lms<N>, d: Lms<N>) -> N
     ensures { result ≡ step_of N.ops x d }
 {
@@ -175,6 +178,7 @@ fn step<N: Number>(x: Lms<N>, d: Lms<N>) -> N
 }
 
 // From t, where the line meets the triangle, to the curved upper side of sRGB.
+#[tactic(auto, unfolding(crate::specs::Intersection::upper))]
 fn upper<N: Number>(t: N, k: Lms<N>, x: Line<N>) -> N
     ensures { result ≡ upper_of N.ops t k x }
 {
@@ -183,6 +187,7 @@ fn upper<N: Number>(t: N, k: Lms<N>, x: Line<N>) -> N
 }
 
 // The t at which a line in the plane of a hue leaves sRGB.
+#[tactic(auto, unfolding(crate::specs::Intersection::intersection))]
 pub(crate) fn find_gamut_intersection<N: Number>(h: Direction<N>, x: Line<N>, cusp: LC<N>) -> N
     ensures { result ≡ intersection N.ops h x cusp }
 {

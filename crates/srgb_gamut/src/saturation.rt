@@ -139,6 +139,7 @@ fn halley<N: Number>(s: N, f: Jet<N>) -> N
     s.sub(f.value.mul(f.first).div(f.halley_divisor()))
 }
 
+#[tactic(auto, unfolding(crate::specs::Saturation::stepped))]
 fn stepped<N: Number>(w: Lms<N>, k: Lms<N>, s: N) -> N
     ensures { result ≡ stepped_of N.ops w k s }
 {
@@ -147,6 +148,7 @@ fn stepped<N: Number>(w: Lms<N>, k: Lms<N>, s: N) -> N
 }
 
 // The largest saturation, chroma ÷ lightness, of a hue in sRGB. It is a part of the cusp.
+#[tactic(auto, unfolding(crate::specs::Saturation::max_saturation))]
 pub(crate) fn max_saturation<N: Number>(h: Direction<N>) -> N
     ensures { result ≡ max_saturation N.ops h }
 {
