@@ -170,6 +170,7 @@ fn lms_to_rgb<N: Number>(c: Lms<N>) -> LinSrgb<N>
 }
 
 /// The linear sRGB of a colour in Oklab.
+#[tactic(auto, unfolding(crate::specs::Oklab::oklab_to_linear_srgb))]
 pub fn oklab_to_linear_srgb<N: Number>(c: Oklab<N>) -> LinSrgb<N>
     ensures value { result ≡ oklab_to_linear_srgb N.ops c }
     ensures meaning { map_rgb N.means result ≡ oklab_to_linear_srgb N.arith (map_oklab N.means c) }
@@ -202,6 +203,7 @@ fn roots_to_oklab<N: Number>(c: Lms<N>) -> Oklab<N>
 }
 
 /// The Oklab of a colour in linear sRGB.
+#[tactic(auto, unfolding(crate::specs::Oklab::linear_srgb_to_oklab))]
 pub fn linear_srgb_to_oklab<N: Number>(c: LinSrgb<N>) -> Oklab<N>
     ensures value { result ≡ linear_srgb_to_oklab N.ops c }
     ensures meaning { map_oklab N.means result ≡ linear_srgb_to_oklab N.arith (map_rgb N.means c) }
@@ -210,6 +212,7 @@ pub fn linear_srgb_to_oklab<N: Number>(c: LinSrgb<N>) -> Oklab<N>
 }
 
 /// The Oklab of a colour in XYZ.
+#[tactic(auto, unfolding(crate::specs::Oklab::xyz_to_oklab))]
 pub fn xyz_to_oklab<N: Number>(c: Xyz<N>) -> Oklab<N>
     ensures value { result ≡ xyz_to_oklab N.ops c }
     ensures meaning { map_oklab N.means result ≡ xyz_to_oklab N.arith (map_xyz N.means c) }

@@ -79,6 +79,7 @@ impl<N> From<Xyz<N>> for Vec3<N> {
 }
 
 /// The XYZ of a colour in Oklab.
+#[tactic(auto, unfolding(crate::specs::Oklab::oklab_to_xyz))]
 pub fn oklab_to_xyz<N: Number>(c: Oklab<N>) -> Xyz<N>
     ensures value { result ≡ oklab_to_xyz N.ops c }
     ensures meaning { map_xyz N.means result ≡ oklab_to_xyz N.arith (map_oklab N.means c) }
