@@ -58,6 +58,7 @@ fn values_at<N: Number>(lightness: N, h: Direction<N>, cusp: LC<N>, max: N) -> C
 }
 
 /// The chroma values of a lightness and a hue in sRGB.
+#[tactic(auto, unfolding(crate::specs::Chroma::chroma_values))]
 pub fn from_normalized<N: Number>(lightness: N, h: Direction<N>) -> ChromaValues<N>
     ensures value { result ≡ chroma_values N.ops lightness h }
     ensures meaning { map_values N.means result ≡ chroma_values N.arith (N.means lightness) (map_direction N.means h) }
