@@ -19,6 +19,10 @@ module _ {N : Type 0} (o : Ops N) where
   abbrev pub st_of : LC N → ST N
   st_of c = record { s = c.chroma / c.lightness; t = c.chroma / (one - c.lightness) }
 
+  -- a cubic in a, by Horner's rule
+  abbrev pub cubic : (a k0 k1 k2 k3 : N) → N
+  cubic a k0 k1 k2 k3 = k0 + a * (k1 + a * (k2 + a * k3))
+
   -- a smooth approximation of the triangle of the cusp, found by optimization
   abbrev pub mid_s : Direction N → N
   mid_s h =

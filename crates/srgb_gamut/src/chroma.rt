@@ -1,7 +1,7 @@
 // The chroma values of a lightness and a hue in sRGB.
 ghost use Rattle.std.specs.Prelude.{◌≡◌};
 ghost use Rattle.gamut.specs.Maps.{map_direction, map_values};
-ghost use Rattle.srgb_gamut.specs.Chroma.{scale as scale_of, mid_chroma, zero_chroma, level as level_of, values_at, chroma_values};
+ghost use Rattle.srgb_gamut.specs.Chroma.{scale as scale_of, mid_chroma, zero_chroma, values_at, chroma_values};
 
 use crate::cusp::LC;
 use crate::intersection::{Line, find_gamut_intersection};
@@ -34,16 +34,6 @@ fn zero_chroma<N: Number>(lightness: N) -> N
     average.sides(lightness).soft_min2()
 }
 
-fn level<N: Number>(lightness: N) -> Line<N>
-    ensures { result ≡ level_of N.ops lightness }
-{
-    Line {
-        l1: lightness,
-        c1: N::whole(1),
-        l0: lightness,
-    }
-}
-
 #[tactic(auto, unfolding(crate::specs::Chroma::values_at))]
 fn values_at<N: Number>(lightness: N, h: Direction<N>, cusp: LC<N>, max: N) -> ChromaValues<N>
     ensures { result ≡ values_at N.ops lightness h cusp max }
@@ -64,6 +54,6 @@ pub fn from_normalized<N: Number>(lightness: N, h: Direction<N>) -> ChromaValues
     ensures meaning { map_values N.means result ≡ chroma_values N.arith (N.means lightness) (map_direction N.means h) }
 {
     let cusp = LC::find_cusp(h);
-    let max = find_gamut_intersection(h, level(lightness), cusp);
+    let max = find_gamut_intersection(h, Line::level(lightness), cusp);
     values_at(lightness, h, cusp, max)
 }

@@ -1,5 +1,6 @@
 // Where a line in the plane of a hue leaves sRGB: L = l0 (1 − t) + t l1, C = t c1.
 ghost use Rattle.std.specs.Prelude.{◌≡◌, pos};
+ghost use Rattle.srgb_gamut.specs.Chroma.{level as level_of};
 ghost use Rattle.srgb_gamut.specs.Jet.{values_of, firsts_of, seconds_of};
 ghost use Rattle.srgb_gamut.specs.Intersection.{is_lower, meeting, lower as lower_of, triangle as triangle_of, slopes_along, along as along_of, roots_at, cube_along, red_sum, green_sum, blue_sum, stride_by, stride as stride_of, shortest as shortest_of, step as step_of, upper as upper_of, intersection};
 
@@ -19,6 +20,17 @@ pub struct Line<N> {
 }
 
 impl<N: Number> Line<N> {
+    // The line of one lightness, along which t is the chroma.
+    pub(crate) fn level(lightness: N) -> Line<N>
+        ensures { result ≡ level_of N.ops lightness }
+    {
+        Line {
+            l1: lightness,
+            c1: N::whole(1),
+            l0: lightness,
+        }
+    }
+
     // Whether the line meets the lower side of the triangle, below the cusp.
     fn is_lower(self, cusp: LC<N>) -> bool
         ensures { result ≡ is_lower N.ops self cusp }

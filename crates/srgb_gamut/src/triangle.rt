@@ -1,6 +1,6 @@
 // The triangle that approximates a hue's part of sRGB: lightness from 0 to 1, and chroma up to the cusp.
 ghost use Rattle.std.specs.Prelude.{◌≡◌};
-ghost use Rattle.srgb_gamut.specs.Triangle.{st_of, mid_s, mid_t, mid as mid_of, sides as sides_of, parallel, soft_min2, soft_min4};
+ghost use Rattle.srgb_gamut.specs.Triangle.{st_of, cubic, mid_s, mid_t, mid as mid_of, sides as sides_of, parallel, soft_min2, soft_min4};
 
 use crate::cusp::LC;
 use gamut::direction::Direction;
@@ -20,44 +20,37 @@ pub struct Sides<N> {
     pub upper: N,
 }
 
-// Nested polynomials in a, whose products are added in one and subtracted in the other: each stands as a formula.
+// A cubic in a, by Horner's rule.
+fn cubic<N: Number>(a: N, k0: N, k1: N, k2: N, k3: N) -> N
+    ensures { result ≡ cubic N.ops a k0 k1 k2 k3 }
+{
+    k0.add(a.mul(k1.add(a.mul(k2.add(a.mul(k3))))))
+}
+
+// The signs of the coefficients are operations, other ones in `mid_t`.
 fn mid_s<N: Number>(h: Direction<N>) -> N
     ensures { result ≡ mid_s N.ops h }
 {
-    let a = h.a;
-    let b = h.b;
-    let third = N::literal(Literal::MidS6)
-        .add(N::literal(Literal::MidS7).mul(b))
-        .add(N::literal(Literal::MidS8).mul(a));
-    let second = N::literal(Literal::MidS4)
-        .sub(N::literal(Literal::MidS5).mul(b))
-        .add(a.mul(third));
-    let first = N::literal(Literal::MidS2)
-        .add(N::literal(Literal::MidS3).mul(b))
-        .add(a.mul(second));
-    let below = N::literal(Literal::MidS0)
-        .add(N::literal(Literal::MidS1).mul(b))
-        .add(a.mul(first));
+    let k0 = N::literal(Literal::MidS0).add(N::literal(Literal::MidS1).mul(h.b));
+    let k1 = N::literal(Literal::MidS2).add(N::literal(Literal::MidS3).mul(h.b));
+    let k2 = N::literal(Literal::MidS4).sub(N::literal(Literal::MidS5).mul(h.b));
+    let k3 = N::literal(Literal::MidS6)
+        .add(N::literal(Literal::MidS7).mul(h.b))
+        .add(N::literal(Literal::MidS8).mul(h.a));
+    let below = cubic(h.a, k0, k1, k2, k3);
     N::literal(Literal::MidS).add(N::whole(1).div(below))
 }
 
 fn mid_t<N: Number>(h: Direction<N>) -> N
     ensures { result ≡ mid_t N.ops h }
 {
-    let a = h.a;
-    let b = h.b;
-    let third = N::literal(Literal::MidT6)
-        .sub(N::literal(Literal::MidT7).mul(b))
-        .sub(N::literal(Literal::MidT8).mul(a));
-    let second = N::literal(Literal::MidT4)
-        .add(N::literal(Literal::MidT5).mul(b))
-        .add(a.mul(third));
-    let first = N::literal(Literal::MidT2)
-        .add(N::literal(Literal::MidT3).mul(b))
-        .add(a.mul(second));
-    let below = N::literal(Literal::MidT0)
-        .sub(N::literal(Literal::MidT1).mul(b))
-        .add(a.mul(first));
+    let k0 = N::literal(Literal::MidT0).sub(N::literal(Literal::MidT1).mul(h.b));
+    let k1 = N::literal(Literal::MidT2).add(N::literal(Literal::MidT3).mul(h.b));
+    let k2 = N::literal(Literal::MidT4).add(N::literal(Literal::MidT5).mul(h.b));
+    let k3 = N::literal(Literal::MidT6)
+        .sub(N::literal(Literal::MidT7).mul(h.b))
+        .sub(N::literal(Literal::MidT8).mul(h.a));
+    let below = cubic(h.a, k0, k1, k2, k3);
     N::literal(Literal::MidT).add(N::whole(1).div(below))
 }
 
