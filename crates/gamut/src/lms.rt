@@ -1,6 +1,6 @@
 // The responses of the eye's long, medium and short cones.
 ghost use Rattle.std.specs.Prelude.{◌≡◌};
-ghost use Rattle.gamut.specs.Oklab.{lms_vector, as_lms};
+ghost use Rattle.gamut.specs.Oklab.{as_lms};
 
 use crate::matrix::Vec3;
 
@@ -36,18 +36,6 @@ impl<N> From<Vec3<N>> for Lms<N> {
             l: v.x,
             m: v.y,
             s: v.z,
-        }
-    }
-}
-
-impl<N> From<Lms<N>> for Vec3<N> {
-    ghost from_gives = { λ c v. v ≡ lms_vector c };
-
-    fn from(c: Lms<N>) -> Vec3<N> {
-        Vec3 {
-            x: c.l,
-            y: c.m,
-            z: c.s,
         }
     }
 }

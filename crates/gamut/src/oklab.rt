@@ -130,7 +130,8 @@ impl<N> From<Oklab<N>> for Vec3<N> {
     }
 }
 
-// The sums below subtract, where a matrix would add a negative constant: two operations, of which a conversion names one.
+// The sums of `roots_of`, `lms_to_rgb` and `roots_to_oklab` are no matrices: to subtract a product is another operation than to add
+// that of a negative constant.
 
 // Oklab to the cube roots of LMS.
 fn roots_of<N: Number>(c: Oklab<N>) -> Lms<N>
@@ -217,8 +218,8 @@ pub fn xyz_to_oklab<N: Number>(c: Xyz<N>) -> Oklab<N>
     ensures value { result ≡ xyz_to_oklab N.ops c }
     ensures meaning { map_oklab N.means result ≡ xyz_to_oklab N.arith (map_xyz N.means c) }
 {
-    let lms = Lms::from(M1.numbers().times(Vec3::from(c)));
+    let lms = M1.numbers().times(Vec3::from(c));
     let roots = lms.map(|x| x.cbrt());
-    let lab = M2.numbers().times(Vec3::from(roots));
+    let lab = M2.numbers().times(roots);
     Oklab::from(lab.map(|x| x.mark(Stage::Matrix)))
 }

@@ -3,7 +3,6 @@ ghost use Rattle.std.specs.Prelude.{◌≡◌};
 ghost use Rattle.gamut.specs.Maps.{map_oklab, map_xyz};
 ghost use Rattle.gamut.specs.Oklab.{to_xyz, xyz_vector, oklab_to_xyz};
 
-use crate::lms::Lms;
 use crate::matrix::{Mat3, Vec3};
 use crate::oklab::Oklab;
 use number::{Literal, Number, Stage, cube};
@@ -84,8 +83,8 @@ pub fn oklab_to_xyz<N: Number>(c: Oklab<N>) -> Xyz<N>
     ensures value { result ≡ oklab_to_xyz N.ops c }
     ensures meaning { map_xyz N.means result ≡ oklab_to_xyz N.arith (map_oklab N.means c) }
 {
-    let roots = Lms::from(M2_INV.numbers().times(Vec3::from(c)));
+    let roots = M2_INV.numbers().times(Vec3::from(c));
     let lms = roots.map(|x| cube(x));
-    let xyz = M1_INV.numbers().times(Vec3::from(lms));
+    let xyz = M1_INV.numbers().times(lms);
     Xyz::from(xyz.map(|x| x.mark(Stage::Matrix)))
 }

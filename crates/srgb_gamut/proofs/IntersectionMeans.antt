@@ -1,5 +1,4 @@
 -- The intersection of a line with sRGB commutes with any map that carries one kind's operations to another's.
-use mathlib.Core.Bool.{Bool, cond}
 use mathlib.Core.Path.{◌≡◌}
 use Rattle.number.specs.Ops.{Ops, Hom}
 use Rattle.gamut.proofs.CurveMeans.{map_cond}
@@ -13,12 +12,9 @@ use Rattle.srgb_gamut.specs.declared.jet.Jet.{Jet}
 use Rattle.srgb_gamut.proofs.Maps.{map_lms, map_lc, map_jet, map_line}
 
 module _ {N M : Type 0} {f : N → M} {o : Ops N} {p : Ops M} (h : Hom f o p) where
-  either : (b : Bool) (x y : N) → f (cond b x y) ≡ cond b (f x) (f y)
-  either = map_cond f
-
   stride-means : (j : Jet N) → f (stride o j) ≡ stride p (map_jet f j)
   unfolding stride
-  stride-means j = simp (either, h.le, h.sub, h.mul, h.div, h.neg, h.literal, h.whole)
+  stride-means j = simp (map_cond f, h.le, h.sub, h.mul, h.div, h.neg, h.literal, h.whole)
 
   shortest-means : (l m s : Jet N) → f (shortest o l m s) ≡ shortest p (map_jet f l) (map_jet f m) (map_jet f s)
   unfolding shortest
@@ -34,4 +30,4 @@ module _ {N M : Type 0} {f : N → M} {o : Ops N} {p : Ops M} (h : Hom f o p) wh
 
   pub intersection-means : (d : Direction N) (x : Line N) (c : LC N) → f (intersection o d x c) ≡ intersection p (map_direction f d) (map_line f x) (map_lc f c)
   unfolding intersection
-  intersection-means d x c = simp (either, upper-means, h.le, h.mark, h.add, h.sub, h.mul, h.div, h.neg, h.literal, h.whole)
+  intersection-means d x c = simp (map_cond f, upper-means, h.le, h.mark, h.add, h.sub, h.mul, h.div, h.neg, h.literal, h.whole)

@@ -84,12 +84,12 @@ fn along<N: Number>(x: N, y: N, k: Lms<N>) -> Lms<N>
 }
 
 // The cube roots of LMS at t.
-fn roots_at<N: Number>(t: N, x: Line<N>, k: Lms<N>) -> Lms<N>
-    ensures { result ≡ roots_at N.ops t x k }
+fn roots_at<N: Number>(t: N, line: Line<N>, slopes: Lms<N>) -> Lms<N>
+    ensures { result ≡ roots_at N.ops t line slopes }
 {
-    let lightness = x.l0.mul(N::whole(1).sub(t)).add(t.mul(x.l1));
-    let chroma = t.mul(x.c1);
-    along(lightness, chroma, k)
+    let lightness = line.l0.mul(N::whole(1).sub(t)).add(t.mul(line.l1));
+    let chroma = t.mul(line.c1);
+    along(lightness, chroma, slopes)
 }
 
 // The cube of x, which grows by d, with its derivatives; the products go in another order than in `cube_of_saturation`.
@@ -191,22 +191,22 @@ fn step<N: Number>(x: Lms<N>, d: Lms<N>) -> N
 
 // From t, where the line meets the triangle, to the curved upper side of sRGB.
 #[tactic(auto, unfolding(crate::specs::Intersection::upper))]
-fn upper<N: Number>(t: N, k: Lms<N>, x: Line<N>) -> N
-    ensures { result ≡ upper_of N.ops t k x }
+fn upper<N: Number>(t: N, slopes: Lms<N>, line: Line<N>) -> N
+    ensures { result ≡ upper_of N.ops t slopes line }
 {
-    let d = along(x.l1.sub(x.l0), x.c1, k);
-    t.add(step(roots_at(t, x, k), d))
+    let growth = along(line.l1.sub(line.l0), line.c1, slopes);
+    t.add(step(roots_at(t, line, slopes), growth))
 }
 
 // The t at which a line in the plane of a hue leaves sRGB.
 #[tactic(auto, unfolding(crate::specs::Intersection::intersection))]
-pub(crate) fn find_gamut_intersection<N: Number>(h: Direction<N>, x: Line<N>, cusp: LC<N>) -> N
-    ensures { result ≡ intersection N.ops h x cusp }
+pub(crate) fn find_gamut_intersection<N: Number>(h: Direction<N>, line: Line<N>, cusp: LC<N>) -> N
+    ensures { result ≡ intersection N.ops h line cusp }
 {
-    let t = if x.is_lower(cusp) {
-        x.lower(cusp)
+    let t = if line.is_lower(cusp) {
+        line.lower(cusp)
     } else {
-        upper(x.triangle(cusp), slopes(h), x)
+        upper(line.triangle(cusp), slopes(h), line)
     };
     t.mark(Stage::Intersection)
 }
