@@ -1,15 +1,14 @@
 -- The largest saturation and the cusp commute with any map that carries one kind's operations to another's.
 use mathlib.Core.Bool.{Bool, true, false}
-use mathlib.Core.Path.{◌≡◌, ap, ap₂, ◌∙◌}
+use mathlib.Core.Path.{◌≡◌}
 use Rattle.number.specs.Ops.{Ops, Hom}
-use Rattle.number.specs.declared.fault.Stage.TheVariants.{Cusp}
 use Rattle.gamut.proofs.OklabMeans.{oklab_to_linear_srgb-means}
 use Rattle.gamut.specs.Maps.{map_direction, map_oklab, map_rgb}
 use Rattle.gamut.specs.declared.direction.Direction.{Direction}
 use Rattle.gamut.specs.declared.lms.Lms.{Lms}
 use Rattle.gamut.specs.declared.rgb.LinSrgb.{LinSrgb}
 use Rattle.srgb_gamut.specs.Cusp.{cusp_at, at_saturation, cusp}
-use Rattle.srgb_gamut.specs.Saturation.{red_first, green_first, choice, fit, stepped, saturation_by, max_saturation}
+use Rattle.srgb_gamut.specs.Saturation.{choice, fit, stepped, saturation_by, max_saturation}
 use Rattle.srgb_gamut.specs.declared.saturation.Fit.{Fit}
 use Rattle.srgb_gamut.proofs.Maps.{map_lms, map_lc, map_fit}
 
@@ -19,14 +18,8 @@ module _ {N M : Type 0} {f : N → M} {o : Ops N} {p : Ops M} (h : Hom f o p) wh
   choice-means false true = simp h.literal
   choice-means false false = simp h.literal
 
-  red_means : (d : Direction N) → red_first o d ≡ red_first p (map_direction f d)
-  red_means d = simp (h.lt, h.sub, h.mul, h.literal, h.whole)
-
-  green_means : (d : Direction N) → green_first o d ≡ green_first p (map_direction f d)
-  green_means d = simp (h.lt, h.sub, h.mul, h.literal, h.whole)
-
   fit-means : (d : Direction N) → map_fit f (fit o d) ≡ fit p (map_direction f d)
-  fit-means d = choice-means (red_first o d) (green_first o d) ∙ ap₂ (choice p) (red_means d) (green_means d)
+  fit-means d = simp (choice-means, h.lt, h.sub, h.mul, h.literal, h.whole)
 
   stepped-means : (w k : Lms N) (s : N) → f (stepped o w k s) ≡ stepped p (map_lms f w) (map_lms f k) (f s)
   unfolding stepped
@@ -37,9 +30,7 @@ module _ {N M : Type 0} {f : N → M} {o : Ops N} {p : Ops M} (h : Hom f o p) wh
 
   max_saturation-means : (d : Direction N) → f (max_saturation o d) ≡ max_saturation p (map_direction f d)
   unfolding max_saturation
-  max_saturation-means d =
-      h.mark Cusp (saturation_by o (fit o d) d)
-      ∙ ap (p.mark Cusp) (by_means (fit o d) d ∙ ap (λ k. saturation_by p k (map_direction f d)) (fit-means d))
+  max_saturation-means d = rw (max_saturation, ← fit-means d) (simp (h.mark, by_means))
 
   cusp_at-means : (s : N) (c : LinSrgb N) → map_lc f (cusp_at o s c) ≡ cusp_at p (f s) (map_rgb f c)
   cusp_at-means s c = simp (h.mark, h.mul, h.div, h.max, h.cbrt, h.whole)

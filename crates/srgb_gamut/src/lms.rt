@@ -6,7 +6,7 @@ use gamut::direction::Direction;
 use gamut::lms::Lms;
 use number::{Literal, Number};
 
-// A function at each of L, M and S.
+// A function at each of L, M and S, as `Lms::map`, which is not public: it requires something of the function.
 pub(crate) fn each<A: Copy, B, F: Fn(A) -> B>(c: Lms<A>, f: F) -> Lms<B>
     requires { F.IsAlwaysCallable f }
     ensures l { F.post f c.l result.l }
@@ -26,7 +26,8 @@ pub(crate) fn dot<N: Number>(w: Lms<N>, c: Lms<N>) -> N
     w.l.mul(c.l).add(w.m.mul(c.m)).add(w.s.mul(c.s))
 }
 
-// How fast the cube roots of LMS change with the chroma: `medium` and `short` are the factors of a in M and S.
+// How fast the cube roots of LMS change with the chroma: `medium` and `short` are the factors of a in M and S,
+// negative constants in one caller and negated ones in the other.
 pub(crate) fn slopes_by<N: Number>(medium: N, short: N, h: Direction<N>) -> Lms<N>
     ensures { result ≡ slopes_by N.ops medium short h }
 {

@@ -27,7 +27,7 @@ fn cubic<N: Number>(a: N, k0: N, k1: N, k2: N, k3: N) -> N
     k0.add(a.mul(k1.add(a.mul(k2.add(a.mul(k3))))))
 }
 
-// The signs of the coefficients are operations, other ones in `mid_t`.
+// Which products are subtracted differs in `mid_t`.
 fn mid_s<N: Number>(h: Direction<N>) -> N
     ensures { result ≡ mid_s N.ops h }
 {
