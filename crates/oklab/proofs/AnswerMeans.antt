@@ -1,12 +1,12 @@
 -- What a check of an answer tells, and what checks and their sequels give by what the numbers mean.
-use Rattle.std.proofs.Common.{◌≡◌, ℕ, Bool, true, false, cond, List, [], ◌∷◌, map, None, Ok, Err, Option, Result, refl, ap, ◌∙◌, arith}
+use Rattle.std.proofs.Common.{◌≡◌, ℕ, Bool, true, false, cond, List, [], ◌∷◌, map, None, Ok, Err, Option, Result, refl, ap, ◌∙◌}
 use Rattle.fault.specs.declared.faults.NumberFault.{NumberFault}
 use Rattle.fault.specs.declared.faults.NumberFault.TheVariants.{Lost}
 use Rattle.gamut.specs.declared.chroma.ChromaValues.{ChromaValues}
 use Rattle.number.specs.Ops.{Ops, Hom}
 use Rattle.boundary.specs.Rule.{meant, untold, admitted}
 use Rattle.boundary.proofs.Rules.{admitted-carried}
-use Rattle.oklab.specs.Checks.{settled}
+use Rattle.oklab.specs.Checks.{refused_unless, settled}
 use Rattle.oklab.specs.Steps.{and_then}
 use Rattle.gamut.specs.Maps.{map_values}
 
@@ -39,18 +39,11 @@ pub asked_means : {N M X Y : Type 0} {f : N → M} {o : Ops N} {p : Ops M} → H
 asked_means {f = f} {o = o} h traced k l v s t e =
     and_then_means (map_values f) k (admitted o traced l v) s t e ∙ ap (λ r. and_then r t) (admitted-carried h traced l v)
 
-module _ {N : Type 0} (o : Ops N) (traced : N → Option (ℕ × ℕ)) where
-  -- A number whose check refuses is spoiled, and the fault is its own.
-  pub spoiled_refused : (x : N) (r : Result (Unit {0}) NumberFault) {e : NumberFault} → r ≡ settled o traced (x ∷ []) tt → r ≡ Err e → (o.spoiled x ≡ true) × (e ≡ Lost (traced x))
-  spoiled_refused x r {e} h k = go (o.spoiled x) h
-    where
-      go : (b : Bool) → r ≡ cond b (Err (Lost (traced x))) (Ok tt) → (b ≡ true) × (e ≡ Lost (traced x))
-      go true h = (refl, cc)
-      go false h = let z : ◌≡◌ {A = ℕ} 0 1 = cc in absurd (omega arith)
+-- A test that refuses fails, and the fault is its own.
+pub test_refused : (b : Bool) {e f : NumberFault} (q : Result (Unit {0}) NumberFault) → q ≡ refused_unless b e → q ≡ Err f → (false ≡ b) × (f ≡ e)
+test_refused true q h k = absurd cc
+test_refused false q h k = (refl, cc)
 
-  pub unspoiled_passed : (x : N) (r : Result (Unit {0}) NumberFault) {u : Unit {0}} → r ≡ settled o traced (x ∷ []) tt → r ≡ Ok u → o.spoiled x ≡ false
-  unspoiled_passed x r {u} h k = go (o.spoiled x) h
-    where
-      go : (b : Bool) → r ≡ cond b (Err (Lost (traced x))) (Ok tt) → b ≡ false
-      go true h = cc
-      go false h = refl
+pub test_passed : (b : Bool) (e : NumberFault) (q : Result (Unit {0}) NumberFault) {u : Unit {0}} → q ≡ refused_unless b e → q ≡ Ok u → true ≡ b
+test_passed true e q h k = refl
+test_passed false e q h k = absurd cc

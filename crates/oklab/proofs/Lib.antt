@@ -1,5 +1,6 @@
 pub mod Carries
 pub mod AnswerMeans
+pub mod Chromatics
 pub mod OkhslMeans
 pub mod OkhslSteps
 pub mod ConversionMeans

@@ -1,6 +1,7 @@
 -- Okhsv to Oklab and back: what an answer means depends only on what the colour means.
-use Rattle.std.proofs.Common.{◌≡◌, ℕ, pos, Option, refl, ap, ◌∙◌, ap₂}
+use Rattle.std.proofs.Common.{◌≡◌, ℕ, pos, Option, Result, refl, ap, ◌∙◌, ap₂}
 use Rattle.gamut.specs.declared.direction.Direction.{Direction}
+use Rattle.fault.specs.declared.faults.NumberFault.{NumberFault}
 use Rattle.gamut.specs.declared.oklab.Oklab.{Oklab}
 use Rattle.gamut.specs.declared.rgb.LinSrgb.{LinSrgb}
 use Rattle.gamut.specs.Maps.{map_direction, map_oklab, map_rgb}
@@ -98,9 +99,9 @@ module _ {N : Type 0} {f : N → Meaning} {o : Ops N} {p : Ops Meaning} (h : Hom
         (grey-means h traced (toe_inv o v.value) ∙ ap (grey p untold) (toe_inv-means h v.value))
         (oklab_on_triangle-means v (triangle_of o v.hue) ∙ ap (oklab_on_triangle p (map_okhsv f v)) (triangle_of-means v.hue)))
 
-    pub oklab_of_okhsv-means : (v : Okhsv N) → meant (map_oklab f) (oklab_of_okhsv o traced v) ≡ oklab_of_okhsv p untold (map_okhsv f v)
-    oklab_of_okhsv-means v =
-        cond_means (meant (map_oklab f)) _ _ (okhsv_in_range-means h traced v)
+    pub oklab_of_okhsv-means : (v : Okhsv N) (r : Result (Oklab N) NumberFault) → r ≡ oklab_of_okhsv o traced v → meant (map_oklab f) r ≡ oklab_of_okhsv p untold (map_okhsv f v)
+    oklab_of_okhsv-means v r e =
+        ap (meant (map_oklab f)) e ∙ cond_means (meant (map_oklab f)) _ _ (okhsv_in_range-means h traced v)
         (cond_means (meant (map_oklab f)) _ _ (h.direction v.hue.a v.hue.b)
         (settled_oklab-means h traced (oklab_of_saturation o traced v) ∙ ap (settled_oklab p untold) (oklab_of_saturation-means v)) refl)
         refl
@@ -110,8 +111,8 @@ module _ {N : Type 0} {f : N → Meaning} {o : Ops N} {p : Ops Meaning} (h : Hom
         cond_means (meant (map_okhsv f)) _ _ (h.spoiled x) refl
         (settled_okhsv-means h traced (okhsv_with_chroma o c x) ∙ ap (settled_okhsv p untold) (okhsv_with_chroma-means c x))
 
-    pub okhsv_of_oklab-means : (c : Oklab N) → meant (map_okhsv f) (okhsv_of_oklab o traced c) ≡ okhsv_of_oklab p untold (map_oklab f c)
-    okhsv_of_oklab-means c =
-        cond_means (meant (map_okhsv f)) _ _ (oklab_in_range-means h traced c)
+    pub okhsv_of_oklab-means : (c : Oklab N) (r : Result (Okhsv N) NumberFault) → r ≡ okhsv_of_oklab o traced c → meant (map_okhsv f) r ≡ okhsv_of_oklab p untold (map_oklab f c)
+    okhsv_of_oklab-means c r e =
+        ap (meant (map_okhsv f)) e ∙ cond_means (meant (map_okhsv f)) _ _ (oklab_in_range-means h traced c)
         (okhsv_of_chroma-means c (hypot o c.a c.b) ∙ ap (okhsv_of_chroma p untold (map_oklab f c)) (hypot-means h c.a c.b))
         refl

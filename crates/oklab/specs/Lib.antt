@@ -1,8 +1,10 @@
 pub mod Steps
 pub mod Checks
 pub mod Okhsl
+pub mod Chromatic
 pub mod Oklch
 pub mod Okhwb
 pub mod Okhsv
+pub mod Polar
 pub mod Word
 pub mod Spaces

@@ -10,7 +10,7 @@ use Rattle.gamut.specs.Curve.{chroma, saturation}
 use Rattle.number.specs.Formulas.{hypot}
 use Rattle.number.specs.Ops.{Ops}
 use Rattle.boundary.specs.Rule.{admitted}
-use Rattle.oklab.specs.Checks.{in_unit, settled}
+use Rattle.oklab.specs.Checks.{in_unit, hue_and_shares_in_range, settled}
 use Rattle.oklab.specs.Steps.{Steps, ends, asks, and_then}
 use Rattle.oklab.specs.declared.okhsl.Okhsl.{Okhsl}
 
@@ -33,7 +33,7 @@ module _ {N : Type 0} (o : Ops N) (traced : N → Option (ℕ × ℕ)) where
 
   -- no number spoiled, saturation and lightness in 0..1
   abbrev pub okhsl_in_range : Okhsl N → Bool
-  okhsl_in_range c = not (spoiled c.hue.a) && (not (spoiled c.hue.b) && (in_unit o c.saturation && in_unit o c.lightness))
+  okhsl_in_range c = hue_and_shares_in_range o c.hue c.saturation c.lightness
 
   -- the colour of Oklab's lightness l with the three numbers v
   abbrev pub oklab_with : Okhsl N → N → ChromaValues N → Oklab N

@@ -67,11 +67,15 @@ module _ {N : Type 0} (o : Ops N) where
       let c = side_chroma g v.saturation in
       scaled v.hue (v.value * l) (v.value * c) (toe_inv o (v.value * l)) (scale_factor v.hue l c)
 
+  -- the saturation of a chroma x on the upper side of the triangle g
+  abbrev pub side_saturation : ST N → N → N
+  side_saturation g x = (half + g.t) * x / (g.t * half + g.t * bend g * x)
+
   -- saturation and value of a colour with the chroma x and the hue h, where t takes it to the upper side of the triangle g
   unfoldable pub okhsv_on_triangle : Oklab N → N → Hue N → ST N → N → Okhsv N
   okhsv_on_triangle c x h g t = record {
     hue = h;
-    saturation = (half + g.t) * (t * x) / (g.t * half + g.t * bend g * (t * x));
+    saturation = side_saturation g (t * x);
     value = toe o (c.l / scale_factor h (t * c.l) (t * x)) / (t * c.l);
   }
 

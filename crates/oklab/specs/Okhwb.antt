@@ -4,7 +4,7 @@ use Rattle.fault.specs.declared.faults.NumberFault.{NumberFault}
 use Rattle.fault.specs.declared.faults.NumberFault.TheVariants.{Range, Direction}
 use Rattle.gamut.specs.Maps.{map_direction}
 use Rattle.number.specs.Ops.{Ops}
-use Rattle.oklab.specs.Checks.{in_unit, settled}
+use Rattle.oklab.specs.Checks.{in_unit, hue_and_shares_in_range, settled}
 use Rattle.oklab.specs.declared.okhsv.Okhsv.{Okhsv}
 use Rattle.oklab.specs.declared.okhwb.Okhwb.{Okhwb}
 
@@ -26,7 +26,7 @@ module _ {N : Type 0} (o : Ops N) (traced : N → Option (ℕ × ℕ)) where
 
   -- no number spoiled, saturation and value in 0..1
   abbrev pub okhsv_in_range : Okhsv N → Bool
-  okhsv_in_range c = not (spoiled c.hue.a) && (not (spoiled c.hue.b) && (in_unit o c.saturation && in_unit o c.value))
+  okhsv_in_range c = hue_and_shares_in_range o c.hue c.saturation c.value
 
   -- no number spoiled, whiteness and blackness in 0..1, whiteness ≤ 1 − blackness
   abbrev pub okhwb_in_range : Okhwb N → Bool

@@ -1,12 +1,13 @@
 // Okhsl, and its conversion from and to Oklab over any boundary.
-ghost use Rattle.std.specs.Prelude.{◌≡◌};
+ghost use Rattle.std.specs.Prelude.{◌≡◌, [], ◌∷◌};
 ghost use Rattle.boundary.specs.Model.{Stays};
 ghost use Rattle.boundary.specs.Rule.{meant, untold};
 ghost use Rattle.gamut.specs.Maps.{map_oklab};
-ghost use Rattle.oklab.specs.Okhsl.{map_okhsl, settled_okhsl, grey as grey_of, okhsl_in_range, oklab_with, oklab_steps, okhsl_grey, is_grey, okhsl_with, okhsl_steps};
+ghost use Rattle.oklab.specs.Okhsl.{map_okhsl, grey as grey_of, okhsl_in_range, oklab_with, oklab_steps, okhsl_grey, is_grey, okhsl_with, okhsl_steps};
 ghost use Rattle.oklab.specs.Steps.{Follows, run};
 
-use crate::checks::{is_in_unit, oklab_in_range, settled_oklab, unspoiled};
+use crate::checks::{Color, check_direction, check_range, hue_and_shares_in_range, settle_four};
+use crate::chromatic::{Chromatic, hue_zero};
 use boundary::Boundary;
 use fault::NumberFault;
 use gamut::chroma::ChromaValues;
@@ -14,7 +15,7 @@ use gamut::curve::{chroma_of, saturation_of};
 use gamut::direction::Direction;
 use gamut::oklab::Oklab;
 use gamut::toe::{toe, toe_inv};
-use number::{Number, hypot};
+use number::Number;
 
 /// A colour of Okhsl: hue as a direction, saturation and lightness in 0..1.
 #[derive(Clone, Copy)]
@@ -24,26 +25,20 @@ pub struct Okhsl<N> {
     pub lightness: N,
 }
 
-// Whether saturation and lightness are in 0..1 and no number is spoiled.
-pub(crate) fn okhsl_in_range<N: Number>(color: Okhsl<N>) -> bool
-    ensures { result ≡ okhsl_in_range N.ops N.traced color }
-{
-    let hue = color.hue;
-    !hue.a.is_spoiled()
-        && !hue.b.is_spoiled()
-        && is_in_unit(color.saturation)
-        && is_in_unit(color.lightness)
-}
+impl<N: Number> Color<N> for Okhsl<N> {
+    ghost numbers = { λ c. c.hue.a ∷ c.hue.b ∷ c.saturation ∷ c.lightness ∷ [] };
 
-fn settled_okhsl<N: Number>(color: Okhsl<N>) -> Result<Okhsl<N>, NumberFault>
-    ensures { result ≡ settled_okhsl N.ops N.traced color }
-{
-    let hue = color.hue;
-    unspoiled(hue.a)?;
-    unspoiled(hue.b)?;
-    unspoiled(color.saturation)?;
-    unspoiled(color.lightness)?;
-    Ok(color)
+    ghost in_range = { okhsl_in_range N.ops N.traced };
+
+    // Saturation and lightness are in 0..1.
+    fn is_in_range(self) -> bool {
+        hue_and_shares_in_range(self.hue, self.saturation, self.lightness)
+    }
+
+    fn settled(self) -> Result<Okhsl<N>, NumberFault> {
+        let hue = self.hue;
+        settle_four(self, hue.a, hue.b, self.saturation, self.lightness)
+    }
 }
 
 // A grey of Oklab's lightness l.
@@ -80,22 +75,18 @@ pub fn okhsl_to_oklab<N: Number, B: Boundary<N>>(
     ensures meaning { B.right boundary.old → meant (map_oklab N.means) result ≡ run (B.meaning boundary.old) (oklab_steps N.arith untold (map_okhsl N.means color)) }
     ensures stays { Stays B.right B.meaning B.model boundary.old boundary.new }
 {
-    if !okhsl_in_range(color) {
-        return Err(NumberFault::Range);
-    }
+    check_range(color)?;
     let hue = color.hue;
-    if !N::is_direction(hue.a, hue.b) {
-        return Err(NumberFault::Direction);
-    }
+    check_direction(hue)?;
     if color.lightness.eq(N::whole(1)) {
-        return settled_oklab(grey(N::whole(1)));
+        return grey(N::whole(1)).settled();
     }
     if color.lightness.eq(N::whole(0)) {
-        return settled_oklab(grey(N::whole(0)));
+        return grey(N::whole(0)).settled();
     }
     let l = toe_inv(color.lightness);
     let values = boundary.query(l, hue.a, hue.b)?;
-    settled_oklab(oklab_with(color, l, values))
+    oklab_with(color, l, values).settled()
 }
 
 // A grey of Okhsl, at hue 0.
@@ -103,33 +94,29 @@ fn okhsl_grey<N: Number>(color: Oklab<N>) -> Okhsl<N>
     ensures { result ≡ okhsl_grey N.ops N.traced color }
 {
     Okhsl {
-        hue: Direction {
-            a: N::whole(1),
-            b: N::whole(0),
-        },
+        hue: hue_zero(),
         saturation: N::whole(0),
         lightness: toe(color.l),
     }
 }
 
 // Whether chroma or lightness is no valid divisor, or lightness is 1.
-fn is_grey<N: Number>(color: Oklab<N>, chroma: N) -> bool
-    ensures { result ≡ is_grey N.ops N.traced color chroma }
+fn is_grey<N: Number>(chromatic: Chromatic<N>) -> bool
+    ensures { result ≡ is_grey N.ops N.traced chromatic.color chromatic.chroma }
 {
-    !chroma.is_valid_divisor() || color.l.eq(N::whole(1)) || !color.l.is_valid_divisor()
+    let color = chromatic.color;
+    !chromatic.chroma.is_valid_divisor() || color.l.eq(N::whole(1)) || !color.l.is_valid_divisor()
 }
 
-// The colour of this chroma with the three numbers of a boundary.
-fn okhsl_with<N: Number>(color: Oklab<N>, chroma: N, values: ChromaValues<N>) -> Okhsl<N>
-    ensures { result ≡ okhsl_with N.ops N.traced color chroma values }
+// The colour with the three numbers of a boundary.
+fn okhsl_with<N: Number>(chromatic: Chromatic<N>, values: ChromaValues<N>) -> Okhsl<N>
+    ensures { result ≡ okhsl_with N.ops N.traced chromatic.color chromatic.chroma values }
 {
+    let color = chromatic.color;
     let lightness = toe(color.l);
     Okhsl {
-        hue: Direction {
-            a: color.a.div(chroma),
-            b: color.b.div(chroma),
-        },
-        saturation: saturation_of(values, chroma),
+        hue: chromatic.hue(),
+        saturation: saturation_of(values, chromatic.chroma),
         lightness,
     }
 }
@@ -144,14 +131,11 @@ pub fn oklab_to_okhsl<N: Number, B: Boundary<N>>(
     ensures meaning { B.right boundary.old → meant (map_okhsl N.means) result ≡ run (B.meaning boundary.old) (okhsl_steps N.arith untold (map_oklab N.means color)) }
     ensures stays { Stays B.right B.meaning B.model boundary.old boundary.new }
 {
-    if !oklab_in_range(color) {
-        return Err(NumberFault::Range);
+    let chromatic = Chromatic::of(color)?;
+    if is_grey(chromatic) {
+        return okhsl_grey(color).settled();
     }
-    let chroma = hypot(color.a, color.b);
-    unspoiled(chroma)?;
-    if is_grey(color, chroma) {
-        return settled_okhsl(okhsl_grey(color));
-    }
+    let chroma = chromatic.chroma;
     let values = boundary.query(color.l, color.a.div(chroma), color.b.div(chroma))?;
-    settled_okhsl(okhsl_with(color, chroma, values))
+    okhsl_with(chromatic, values).settled()
 }

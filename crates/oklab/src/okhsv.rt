@@ -1,19 +1,21 @@
-// Okhsv, and its conversion from Okhwb, and from and to Oklab.
-ghost use Rattle.std.specs.Prelude.{◌≡◌};
+// Okhsv, and its conversion from and to Oklab.
+ghost use Rattle.std.specs.Prelude.{◌≡◌, [], ◌∷◌};
 ghost use Rattle.boundary.specs.Rule.{meant, untold};
 ghost use Rattle.gamut.specs.Maps.{map_oklab};
-ghost use Rattle.oklab.specs.Okhsv.{bend as bend_of, brightest as brightest_of, untoed as untoed_of, scale_factor, side_divisor, side_lightness, side_chroma, scaled as scaled_by, oklab_on_triangle, okhsv_on_triangle, to_side, triangle_of, okhsv_grey, okhsv_with_chroma, oklab_of_saturation, oklab_of_okhsv, okhsv_of_oklab};
-ghost use Rattle.oklab.specs.Okhwb.{map_okhsv, map_okhwb, settled_okhsv, okhsv_in_range, okhwb_in_range, okhsv_with, okhsv_of_okhwb};
+ghost use Rattle.gamut.specs.Toe.{toe_inv};
+ghost use Rattle.oklab.specs.Okhsv.{bend as bend_of, brightest as brightest_of, untoed as untoed_of, scale_factor, side_divisor, scaled as scaled_by, oklab_on_triangle, okhsv_at, to_side, side_saturation, direction_with, triangle_of, okhsv_grey, okhsv_with_chroma, oklab_of_saturation, oklab_of_okhsv, okhsv_of_oklab};
+ghost use Rattle.oklab.specs.Okhwb.{map_okhsv, okhsv_in_range};
+ghost use Rattle.oklab.specs.Polar.{times, side_of};
 
-use crate::checks::{is_in_unit, oklab_in_range, settled_oklab, unspoiled};
+use crate::checks::{Color, check_direction, check_range, hue_and_shares_in_range, settle_four};
+use crate::chromatic::{Chromatic, hue_zero};
 use crate::okhsl::grey;
-use crate::okhwb::Okhwb;
 use fault::NumberFault;
 use gamut::direction::Direction;
 use gamut::oklab::{Oklab, oklab_to_linear_srgb};
 use gamut::rgb::LinSrgb;
 use gamut::toe::{toe, toe_inv};
-use number::{Literal, Number, hypot};
+use number::{Literal, Number};
 use srgb_gamut::{LC, ST};
 
 /// A colour of Okhsv: hue as a direction, saturation and value in 0..1.
@@ -24,76 +26,28 @@ pub struct Okhsv<N> {
     pub value: N,
 }
 
-// A colour of Okhsv, refused where one of its numbers is spoiled.
-pub(crate) fn settled_okhsv<N: Number>(color: Okhsv<N>) -> Result<Okhsv<N>, NumberFault>
-    ensures { result ≡ settled_okhsv N.ops N.traced color }
-{
-    let hue = color.hue;
-    unspoiled(hue.a)?;
-    unspoiled(hue.b)?;
-    unspoiled(color.saturation)?;
-    unspoiled(color.value)?;
-    Ok(color)
-}
+impl<N: Number> Color<N> for Okhsv<N> {
+    ghost numbers = { λ c. c.hue.a ∷ c.hue.b ∷ c.saturation ∷ c.value ∷ [] };
 
-// Whether saturation and value are in 0..1 and no number is spoiled.
-pub(crate) fn okhsv_in_range<N: Number>(color: Okhsv<N>) -> bool
-    ensures { result ≡ okhsv_in_range N.ops N.traced color }
-{
-    let hue = color.hue;
-    !hue.a.is_spoiled()
-        && !hue.b.is_spoiled()
-        && is_in_unit(color.saturation)
-        && is_in_unit(color.value)
-}
+    ghost in_range = { okhsv_in_range N.ops N.traced };
 
-fn okhwb_in_range<N: Number>(color: Okhwb<N>) -> bool
-    ensures { result ≡ okhwb_in_range N.ops N.traced color }
-{
-    let hue = color.hue;
-    !hue.a.is_spoiled()
-        && !hue.b.is_spoiled()
-        && is_in_unit(color.whiteness)
-        && is_in_unit(color.blackness)
-        && color.whiteness.le(N::whole(1).sub(color.blackness))
-}
+    // Saturation and value are in 0..1.
+    fn is_in_range(self) -> bool {
+        hue_and_shares_in_range(self.hue, self.saturation, self.value)
+    }
 
-fn okhsv_with<N: Number>(color: Okhwb<N>, value: N) -> Okhsv<N>
-    ensures { result ≡ okhsv_with N.ops N.traced color value }
-{
-    let saturation = if value.is_valid_divisor() {
-        N::whole(1).sub(color.whiteness.div(value))
-    } else {
-        N::whole(0)
-    };
-    Okhsv {
-        hue: color.hue,
-        saturation,
-        value,
+    fn settled(self) -> Result<Okhsv<N>, NumberFault> {
+        let hue = self.hue;
+        settle_four(self, hue.a, hue.b, self.saturation, self.value)
     }
 }
 
-/// Converts Okhwb to Okhsv. It is refused where a number is out of range or spoiled, whiteness and blackness sum to more
-/// than 1, the direction is not accepted, or a number of the answer is spoiled, in this order.
-pub fn okhwb_to_okhsv<N: Number>(color: Okhwb<N>) -> Result<Okhsv<N>, NumberFault>
-    ensures value { result ≡ okhsv_of_okhwb N.ops N.traced color }
-    ensures meaning { meant (map_okhsv N.means) result ≡ okhsv_of_okhwb N.arith untold (map_okhwb N.means color) }
-{
-    if !okhwb_in_range(color) {
-        return Err(NumberFault::Range);
-    }
-    let hue = color.hue;
-    if !N::is_direction(hue.a, hue.b) {
-        return Err(NumberFault::Direction);
-    }
-    settled_okhsv(okhsv_with(color, N::whole(1).sub(color.blackness)))
-}
-
-// 1 − 0.5 ÷ S
-fn bend<N: Number>(triangle: ST<N>) -> N
-    ensures { result ≡ bend_of N.ops triangle }
-{
-    N::whole(1).sub(N::literal(Literal::Half).div(triangle.s))
+/// A colour by its hue, lightness and chroma, in the triangle of its hue.
+#[derive(Clone, Copy)]
+pub(crate) struct Polar<N> {
+    hue: Direction<N>,
+    lightness: N,
+    chroma: N,
 }
 
 fn brightest<N: Number>(c: LinSrgb<N>) -> N
@@ -102,24 +56,60 @@ fn brightest<N: Number>(c: LinSrgb<N>) -> N
     c.red.max(c.green).max(c.blue.max(N::whole(0)))
 }
 
-// A lightness l and a chroma c with the toe undone, which takes l to m.
-fn untoed<N: Number>(hue: Direction<N>, l: N, c: N, m: N) -> Oklab<N>
-    ensures { result ≡ untoed_of N.ops hue l c m }
-{
-    let chroma = c.mul(m).div(l);
-    Oklab {
-        l: m,
-        a: hue.a.mul(chroma),
-        b: hue.b.mul(chroma),
+impl<N: Number> Polar<N> {
+    // The colour moved along the line from black, lightness and chroma alike.
+    fn times(self, factor: N) -> Polar<N>
+        ensures { result ≡ times N.ops self factor }
+    {
+        Polar {
+            hue: self.hue,
+            lightness: factor.mul(self.lightness),
+            chroma: factor.mul(self.chroma),
+        }
+    }
+
+    // The colour with the toe undone.
+    fn untoed(self) -> Oklab<N>
+        ensures { result ≡ untoed_of N.ops self.hue self.lightness self.chroma (toe_inv N.ops self.lightness) }
+    {
+        let hue = self.hue;
+        let l = toe_inv(self.lightness);
+        let chroma = self.chroma.mul(l).div(self.lightness);
+        Oklab {
+            l,
+            a: hue.a.mul(chroma),
+            b: hue.b.mul(chroma),
+        }
+    }
+
+    // What takes a colour on the triangle's upper side to the curved one, where a channel of sRGB is 1.
+    fn scale_factor(self) -> N
+        ensures { result ≡ scale_factor N.ops self.hue self.lightness self.chroma }
+    {
+        let rgb = oklab_to_linear_srgb(self.untoed());
+        N::whole(1).div(brightest(rgb)).cbrt()
+    }
+
+    // The colour with the toe undone, scaled by a factor.
+    fn scaled(self, factor: N) -> Oklab<N>
+        ensures { result ≡ scaled_by N.ops self.hue self.lightness self.chroma (toe_inv N.ops self.lightness) factor }
+    {
+        let hue = self.hue;
+        let l = toe_inv(self.lightness);
+        let chroma = self.chroma.mul(l).div(self.lightness).mul(factor);
+        Oklab {
+            l: l.mul(factor),
+            a: chroma.mul(hue.a),
+            b: chroma.mul(hue.b),
+        }
     }
 }
 
-// What takes a colour on the triangle's upper side to the curved one, where a channel of sRGB is 1.
-fn scale_factor<N: Number>(hue: Direction<N>, l: N, c: N) -> N
-    ensures { result ≡ scale_factor N.ops hue l c }
+// 1 − 0.5 ÷ S
+fn bend<N: Number>(triangle: ST<N>) -> N
+    ensures { result ≡ bend_of N.ops triangle }
 {
-    let rgb = oklab_to_linear_srgb(untoed(hue, l, c, toe_inv(l)));
-    N::whole(1).div(brightest(rgb)).cbrt()
+    N::whole(1).sub(N::literal(Literal::Half).div(triangle.s))
 }
 
 fn side_divisor<N: Number>(triangle: ST<N>, s: N) -> N
@@ -130,48 +120,24 @@ fn side_divisor<N: Number>(triangle: ST<N>, s: N) -> N
         .sub(triangle.t.mul(bend(triangle)).mul(s))
 }
 
-fn side_lightness<N: Number>(triangle: ST<N>, s: N) -> N
-    ensures { result ≡ side_lightness N.ops triangle s }
+// The colour of a saturation on the triangle's upper side.
+fn side_of<N: Number>(hue: Direction<N>, triangle: ST<N>, s: N) -> Polar<N>
+    ensures { result ≡ side_of N.ops hue triangle s }
 {
-    N::whole(1).sub(
-        s.mul(N::literal(Literal::Half))
-            .div(side_divisor(triangle, s)),
-    )
-}
-
-fn side_chroma<N: Number>(triangle: ST<N>, s: N) -> N
-    ensures { result ≡ side_chroma N.ops triangle s }
-{
-    s.mul(triangle.t)
-        .mul(N::literal(Literal::Half))
-        .div(side_divisor(triangle, s))
-}
-
-// The colour of a lightness l and a chroma c on the triangle, with the toe undone, scaled by a factor.
-fn scaled<N: Number>(hue: Direction<N>, l: N, c: N, m: N, factor: N) -> Oklab<N>
-    ensures { result ≡ scaled_by N.ops hue l c m factor }
-{
-    let chroma = c.mul(m).div(l).mul(factor);
-    Oklab {
-        l: m.mul(factor),
-        a: chroma.mul(hue.a),
-        b: chroma.mul(hue.b),
+    let half = N::literal(Literal::Half);
+    let divisor = side_divisor(triangle, s);
+    Polar {
+        hue,
+        lightness: N::whole(1).sub(s.mul(half).div(divisor)),
+        chroma: s.mul(triangle.t).mul(half).div(divisor),
     }
 }
 
 fn oklab_on_triangle<N: Number>(color: Okhsv<N>, triangle: ST<N>) -> Oklab<N>
     ensures { result ≡ oklab_on_triangle N.ops color triangle }
 {
-    let l = side_lightness(triangle, color.saturation);
-    let c = side_chroma(triangle, color.saturation);
-    let lightness = color.value.mul(l);
-    scaled(
-        color.hue,
-        lightness,
-        color.value.mul(c),
-        toe_inv(lightness),
-        scale_factor(color.hue, l, c),
-    )
+    let side = side_of(color.hue, triangle, color.saturation);
+    side.times(color.value).scaled(side.scale_factor())
 }
 
 fn triangle_of<N: Number>(hue: Direction<N>) -> ST<N>
@@ -199,43 +165,47 @@ pub fn okhsv_to_oklab<N: Number>(color: Okhsv<N>) -> Result<Oklab<N>, NumberFaul
     ensures value { result ≡ oklab_of_okhsv N.ops N.traced color }
     ensures meaning { meant (map_oklab N.means) result ≡ oklab_of_okhsv N.arith untold (map_okhsv N.means color) }
 {
-    if !okhsv_in_range(color) {
-        return Err(NumberFault::Range);
-    }
-    let hue = color.hue;
-    if !N::is_direction(hue.a, hue.b) {
-        return Err(NumberFault::Direction);
-    }
-    settled_oklab(oklab_of_saturation(color))
+    check_range(color)?;
+    check_direction(color.hue)?;
+    oklab_of_saturation(color).settled()
 }
 
 // What takes a colour to the upper side of the triangle.
-fn to_side<N: Number>(color: Oklab<N>, chroma: N, triangle: ST<N>) -> N
-    ensures { result ≡ to_side N.ops color chroma triangle }
+fn to_side<N: Number>(chromatic: Chromatic<N>, triangle: ST<N>) -> N
+    ensures { result ≡ to_side N.ops chromatic.color chromatic.chroma triangle }
 {
-    triangle.t.div(chroma.add(color.l.mul(triangle.t)))
+    let color = chromatic.color;
+    triangle
+        .t
+        .div(chromatic.chroma.add(color.l.mul(triangle.t)))
 }
 
-fn okhsv_on_triangle<N: Number>(
-    color: Oklab<N>,
-    chroma: N,
-    hue: Direction<N>,
-    triangle: ST<N>,
-    t: N,
-) -> Okhsv<N>
-    ensures { result ≡ okhsv_on_triangle N.ops color chroma hue triangle t }
+// The saturation of a chroma on the triangle's upper side.
+fn side_saturation<N: Number>(triangle: ST<N>, chroma: N) -> N
+    ensures { result ≡ side_saturation N.ops triangle chroma }
 {
     let half = N::literal(Literal::Half);
-    let l = t.mul(color.l);
-    let c = t.mul(chroma);
-    let below = triangle
-        .t
-        .mul(half)
-        .add(triangle.t.mul(bend(triangle)).mul(c));
+    let t = triangle.t;
+    let divisor = t.mul(half).add(t.mul(bend(triangle)).mul(chroma));
+    half.add(t).mul(chroma).div(divisor)
+}
+
+fn okhsv_on_triangle<N: Number>(chromatic: Chromatic<N>) -> Okhsv<N>
+    ensures { let hue = direction_with N.ops chromatic.color chromatic.chroma in result ≡ okhsv_at N.ops chromatic.color chromatic.chroma hue (triangle_of N.ops hue) }
+{
+    let color = chromatic.color;
+    let hue = chromatic.hue();
+    let triangle = triangle_of(hue);
+    let polar = Polar {
+        hue,
+        lightness: color.l,
+        chroma: chromatic.chroma,
+    };
+    let side = polar.times(to_side(chromatic, triangle));
     Okhsv {
         hue,
-        saturation: half.add(triangle.t).mul(c).div(below),
-        value: toe(color.l.div(scale_factor(hue, l, c))).div(l),
+        saturation: side_saturation(triangle, side.chroma),
+        value: toe(color.l.div(side.scale_factor())).div(side.lightness),
     }
 }
 
@@ -244,34 +214,21 @@ fn okhsv_grey<N: Number>(value: N) -> Okhsv<N>
     ensures { result ≡ okhsv_grey N.ops value }
 {
     Okhsv {
-        hue: Direction {
-            a: N::whole(1),
-            b: N::whole(0),
-        },
+        hue: hue_zero(),
         saturation: N::whole(0),
         value,
     }
 }
 
 // Black, then colours, then greys.
-fn okhsv_with_chroma<N: Number>(color: Oklab<N>, chroma: N) -> Okhsv<N>
-    ensures { result ≡ okhsv_with_chroma N.ops color chroma }
+fn okhsv_with_chroma<N: Number>(chromatic: Chromatic<N>) -> Okhsv<N>
+    ensures { result ≡ okhsv_with_chroma N.ops chromatic.color chromatic.chroma }
 {
+    let color = chromatic.color;
     if color.l.eq(N::whole(0)) {
         okhsv_grey(N::whole(0))
-    } else if chroma.is_valid_divisor() {
-        let hue = Direction {
-            a: color.a.div(chroma),
-            b: color.b.div(chroma),
-        };
-        let triangle = triangle_of(hue);
-        okhsv_on_triangle(
-            color,
-            chroma,
-            hue,
-            triangle,
-            to_side(color, chroma, triangle),
-        )
+    } else if chromatic.chroma.is_valid_divisor() {
+        okhsv_on_triangle(chromatic)
     } else {
         okhsv_grey(toe(color.l))
     }
@@ -283,10 +240,6 @@ pub fn oklab_to_okhsv<N: Number>(color: Oklab<N>) -> Result<Okhsv<N>, NumberFaul
     ensures value { result ≡ okhsv_of_oklab N.ops N.traced color }
     ensures meaning { meant (map_okhsv N.means) result ≡ okhsv_of_oklab N.arith untold (map_oklab N.means color) }
 {
-    if !oklab_in_range(color) {
-        return Err(NumberFault::Range);
-    }
-    let chroma = hypot(color.a, color.b);
-    unspoiled(chroma)?;
-    settled_okhsv(okhsv_with_chroma(color, chroma))
+    let chromatic = Chromatic::of(color)?;
+    okhsv_with_chroma(chromatic).settled()
 }

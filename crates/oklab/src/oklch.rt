@@ -1,14 +1,15 @@
 // Oklch, and its conversion from and to Oklab.
-ghost use Rattle.std.specs.Prelude.{◌≡◌};
+ghost use Rattle.std.specs.Prelude.{◌≡◌, [], ◌∷◌};
 ghost use Rattle.boundary.specs.Rule.{meant, untold};
 ghost use Rattle.gamut.specs.Maps.{map_oklab};
-ghost use Rattle.oklab.specs.Oklch.{map_oklch, settled_oklch, hue_of, oklch_of_oklab, oklch_in_range, oklab_of_oklch};
+ghost use Rattle.oklab.specs.Oklch.{map_oklch, hue_of, oklch_of_oklab, oklch_in_range, oklab_of_oklch};
 
-use crate::checks::{is_in_unit, oklab_in_range, settled_oklab, unspoiled};
+use crate::checks::{Color, check_direction, check_range, is_in_unit, none_spoiled, settle_four};
+use crate::chromatic::{Chromatic, hue_zero};
 use fault::NumberFault;
 use gamut::direction::Direction;
 use gamut::oklab::Oklab;
-use number::{Number, hypot};
+use number::Number;
 
 /// A colour of Oklch: Oklab's lightness, the chroma, and the hue as a direction.
 #[derive(Clone, Copy)]
@@ -18,31 +19,31 @@ pub struct Oklch<N> {
     pub hue: Direction<N>,
 }
 
-fn settled_oklch<N: Number>(color: Oklch<N>) -> Result<Oklch<N>, NumberFault>
-    ensures { result ≡ settled_oklch N.ops N.traced color }
-{
-    let hue = color.hue;
-    unspoiled(color.l)?;
-    unspoiled(color.chroma)?;
-    unspoiled(hue.a)?;
-    unspoiled(hue.b)?;
-    Ok(color)
+impl<N: Number> Color<N> for Oklch<N> {
+    ghost numbers = { λ c. c.l ∷ c.chroma ∷ c.hue.a ∷ c.hue.b ∷ [] };
+
+    ghost in_range = { oklch_in_range N.ops N.traced };
+
+    // The lightness is in 0..1.
+    fn is_in_range(self) -> bool {
+        let hue = self.hue;
+        is_in_unit(self.l) && none_spoiled(self.chroma, hue.a, hue.b)
+    }
+
+    fn settled(self) -> Result<Oklch<N>, NumberFault> {
+        let hue = self.hue;
+        settle_four(self, self.l, self.chroma, hue.a, hue.b)
+    }
 }
 
-// The direction of a colour of this chroma, or hue 0 when the chroma is 0.
-fn hue_of<N: Number>(color: Oklab<N>, chroma: N) -> Direction<N>
-    ensures { result ≡ hue_of N.ops N.traced color chroma }
+// The direction of the colour, or hue 0 when the chroma is 0.
+fn hue_of<N: Number>(chromatic: Chromatic<N>) -> Direction<N>
+    ensures { result ≡ hue_of N.ops N.traced chromatic.color chromatic.chroma }
 {
-    if chroma.eq(N::whole(0)) {
-        Direction {
-            a: N::whole(1),
-            b: N::whole(0),
-        }
+    if chromatic.chroma.eq(N::whole(0)) {
+        hue_zero()
     } else {
-        Direction {
-            a: color.a.div(chroma),
-            b: color.b.div(chroma),
-        }
+        chromatic.hue()
     }
 }
 
@@ -52,23 +53,13 @@ pub fn oklab_to_oklch<N: Number>(color: Oklab<N>) -> Result<Oklch<N>, NumberFaul
     ensures value { result ≡ oklch_of_oklab N.ops N.traced color }
     ensures meaning { meant (map_oklch N.means) result ≡ oklch_of_oklab N.arith untold (map_oklab N.means color) }
 {
-    if !oklab_in_range(color) {
-        return Err(NumberFault::Range);
-    }
-    let chroma = hypot(color.a, color.b);
-    unspoiled(chroma)?;
-    settled_oklch(Oklch {
+    let chromatic = Chromatic::of(color)?;
+    let answer = Oklch {
         l: color.l,
-        chroma,
-        hue: hue_of(color, chroma),
-    })
-}
-
-fn oklch_in_range<N: Number>(color: Oklch<N>) -> bool
-    ensures { result ≡ oklch_in_range N.ops N.traced color }
-{
-    let hue = color.hue;
-    is_in_unit(color.l) && !color.chroma.is_spoiled() && !hue.a.is_spoiled() && !hue.b.is_spoiled()
+        chroma: chromatic.chroma,
+        hue: hue_of(chromatic),
+    };
+    answer.settled()
 }
 
 /// Converts Oklch to Oklab; a chroma below 0 counts as 0. It is refused where a number is out of range or spoiled, the
@@ -77,17 +68,14 @@ pub fn oklch_to_oklab<N: Number>(color: Oklch<N>) -> Result<Oklab<N>, NumberFaul
     ensures value { result ≡ oklab_of_oklch N.ops N.traced color }
     ensures meaning { meant (map_oklab N.means) result ≡ oklab_of_oklch N.arith untold (map_oklch N.means color) }
 {
-    if !oklch_in_range(color) {
-        return Err(NumberFault::Range);
-    }
+    check_range(color)?;
     let hue = color.hue;
-    if !N::is_direction(hue.a, hue.b) {
-        return Err(NumberFault::Direction);
-    }
+    check_direction(hue)?;
     let chroma = color.chroma.max(N::whole(0));
-    settled_oklab(Oklab {
+    let answer = Oklab {
         l: color.l,
         a: hue.a.mul(chroma),
         b: hue.b.mul(chroma),
-    })
+    };
+    answer.settled()
 }

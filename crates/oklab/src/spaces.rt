@@ -1,10 +1,10 @@
 // Oklab from and to linear sRGB and XYZ, with their refusals.
-ghost use Rattle.std.specs.Prelude.{◌≡◌};
+ghost use Rattle.std.specs.Prelude.{◌≡◌, [], ◌∷◌};
 ghost use Rattle.boundary.specs.Rule.{meant, untold};
 ghost use Rattle.gamut.specs.Maps.{map_oklab, map_rgb, map_xyz};
-ghost use Rattle.oklab.specs.Spaces.{settled_rgb, settled_xyz, none_spoiled, linear_srgb_of_oklab, oklab_of_linear_srgb, xyz_of_oklab, oklab_of_xyz};
+ghost use Rattle.oklab.specs.Spaces.{none_spoiled, linear_srgb_of_oklab, oklab_of_linear_srgb, xyz_of_oklab, oklab_of_xyz};
 
-use crate::checks::{oklab_in_range, settled_oklab, unspoiled};
+use crate::checks::{Color, check_range, none_spoiled, settle_three};
 use fault::NumberFault;
 use gamut::oklab::Oklab;
 use gamut::rgb::LinSrgb;
@@ -12,28 +12,32 @@ use gamut::xyz::Xyz;
 use gamut::{oklab, xyz};
 use number::Number;
 
-fn settled_rgb<N: Number>(color: LinSrgb<N>) -> Result<LinSrgb<N>, NumberFault>
-    ensures { result ≡ settled_rgb N.ops N.traced color }
-{
-    unspoiled(color.red)?;
-    unspoiled(color.green)?;
-    unspoiled(color.blue)?;
-    Ok(color)
+impl<N: Number> Color<N> for LinSrgb<N> {
+    ghost numbers = { λ c. c.red ∷ c.green ∷ c.blue ∷ [] };
+
+    ghost in_range = { λ c. none_spoiled N.ops N.traced c.red c.green c.blue };
+
+    fn is_in_range(self) -> bool {
+        none_spoiled(self.red, self.green, self.blue)
+    }
+
+    fn settled(self) -> Result<LinSrgb<N>, NumberFault> {
+        settle_three(self, self.red, self.green, self.blue)
+    }
 }
 
-fn settled_xyz<N: Number>(color: Xyz<N>) -> Result<Xyz<N>, NumberFault>
-    ensures { result ≡ settled_xyz N.ops N.traced color }
-{
-    unspoiled(color.x)?;
-    unspoiled(color.y)?;
-    unspoiled(color.z)?;
-    Ok(color)
-}
+impl<N: Number> Color<N> for Xyz<N> {
+    ghost numbers = { λ c. c.x ∷ c.y ∷ c.z ∷ [] };
 
-fn none_spoiled<N: Number>(x: N, y: N, z: N) -> bool
-    ensures { result ≡ none_spoiled N.ops N.traced x y z }
-{
-    !x.is_spoiled() && !y.is_spoiled() && !z.is_spoiled()
+    ghost in_range = { λ c. none_spoiled N.ops N.traced c.x c.y c.z };
+
+    fn is_in_range(self) -> bool {
+        none_spoiled(self.x, self.y, self.z)
+    }
+
+    fn settled(self) -> Result<Xyz<N>, NumberFault> {
+        settle_three(self, self.x, self.y, self.z)
+    }
 }
 
 /// Converts Oklab to linear sRGB. It is refused where a number is out of range or spoiled, or a number of the answer is
@@ -42,10 +46,8 @@ pub fn oklab_to_linear_srgb<N: Number>(color: Oklab<N>) -> Result<LinSrgb<N>, Nu
     ensures value { result ≡ linear_srgb_of_oklab N.ops N.traced color }
     ensures meaning { meant (map_rgb N.means) result ≡ linear_srgb_of_oklab N.arith untold (map_oklab N.means color) }
 {
-    if !oklab_in_range(color) {
-        return Err(NumberFault::Range);
-    }
-    settled_rgb(oklab::oklab_to_linear_srgb(color))
+    check_range(color)?;
+    oklab::oklab_to_linear_srgb(color).settled()
 }
 
 /// Converts linear sRGB to Oklab. It is refused where a number is spoiled, or a number of the answer is, in this order.
@@ -53,10 +55,8 @@ pub fn linear_srgb_to_oklab<N: Number>(color: LinSrgb<N>) -> Result<Oklab<N>, Nu
     ensures value { result ≡ oklab_of_linear_srgb N.ops N.traced color }
     ensures meaning { meant (map_oklab N.means) result ≡ oklab_of_linear_srgb N.arith untold (map_rgb N.means color) }
 {
-    if !none_spoiled(color.red, color.green, color.blue) {
-        return Err(NumberFault::Range);
-    }
-    settled_oklab(oklab::linear_srgb_to_oklab(color))
+    check_range(color)?;
+    oklab::linear_srgb_to_oklab(color).settled()
 }
 
 /// Converts Oklab to XYZ. It is refused where a number is out of range or spoiled, or a number of the answer is spoiled,
@@ -65,10 +65,8 @@ pub fn oklab_to_xyz<N: Number>(color: Oklab<N>) -> Result<Xyz<N>, NumberFault>
     ensures value { result ≡ xyz_of_oklab N.ops N.traced color }
     ensures meaning { meant (map_xyz N.means) result ≡ xyz_of_oklab N.arith untold (map_oklab N.means color) }
 {
-    if !oklab_in_range(color) {
-        return Err(NumberFault::Range);
-    }
-    settled_xyz(xyz::oklab_to_xyz(color))
+    check_range(color)?;
+    xyz::oklab_to_xyz(color).settled()
 }
 
 /// Converts XYZ to Oklab. It is refused where a number is spoiled, or a number of the answer is, in this order.
@@ -76,8 +74,6 @@ pub fn xyz_to_oklab<N: Number>(color: Xyz<N>) -> Result<Oklab<N>, NumberFault>
     ensures value { result ≡ oklab_of_xyz N.ops N.traced color }
     ensures meaning { meant (map_oklab N.means) result ≡ oklab_of_xyz N.arith untold (map_xyz N.means color) }
 {
-    if !none_spoiled(color.x, color.y, color.z) {
-        return Err(NumberFault::Range);
-    }
-    settled_oklab(oklab::xyz_to_oklab(color))
+    check_range(color)?;
+    oklab::xyz_to_oklab(color).settled()
 }

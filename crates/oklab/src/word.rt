@@ -1,13 +1,14 @@
 // The word for a colour of Okhsl.
-ghost use Rattle.std.specs.Prelude.{◌≡◌};
+ghost use Rattle.std.specs.Prelude.{◌≡◌, Some};
 ghost use Rattle.boundary.specs.Rule.{untold};
 ghost use Rattle.oklab.specs.Okhsl.{map_okhsl};
 ghost use Rattle.oklab.specs.Word.{word_text, word_within, word_of};
 
-use crate::checks::is_in_unit;
-use crate::okhsl::{Okhsl, okhsl_in_range};
+use crate::checks::{Color, check_direction, is_in_unit, refuse_unless};
+use crate::okhsl::Okhsl;
 use fault::NumberFault;
 use number::Number;
+use std::fmt;
 
 /// What a colour is called, by how near it is to grey, white or black.
 #[derive(Clone, Copy)]
@@ -29,6 +30,14 @@ impl Word {
             Word::Black => "black",
             Word::Coloured => "coloured",
         }
+    }
+}
+
+impl fmt::Display for Word {
+    ghost output = { λ w. Some (word_text w) };
+
+    fn fmt<W: fmt::Write>(&self, f: &mut fmt::Formatter<W>) -> fmt::Result {
+        f.write_str(self.text())
     }
 }
 
@@ -54,12 +63,10 @@ pub fn okhsl_word<N: Number>(color: Okhsl<N>, threshold: N) -> Result<Word, Numb
     ensures value { result ≡ word_of N.ops N.traced color threshold }
     ensures meaning { result ≡ word_of N.arith untold (map_okhsl N.means color) (N.means threshold) }
 {
-    if !(okhsl_in_range(color) && is_in_unit(threshold)) {
-        return Err(NumberFault::Range);
-    }
-    let hue = color.hue;
-    if !N::is_direction(hue.a, hue.b) {
-        return Err(NumberFault::Direction);
-    }
+    refuse_unless(
+        color.is_in_range() && is_in_unit(threshold),
+        NumberFault::Range,
+    )?;
+    check_direction(color.hue)?;
     Ok(word_within(color, threshold))
 }

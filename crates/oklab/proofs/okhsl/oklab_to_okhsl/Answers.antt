@@ -1,44 +1,32 @@
 -- Each way out is a way of the steps; what the answer means follows from what it is.
-use Rattle.std.proofs.Common.{◌≡◌, Err, sym, refl, ap, ◌∙◌}
+use Rattle.std.proofs.Common.{◌≡◌, Err, sym, ap, ◌∙◌}
 use Rattle.std.proofs.lemmas.Result.{err_from_is_err_and}
-use Rattle.fault.specs.declared.faults.NumberFault.TheVariants.{Range}
 use Rattle.gamut.specs.declared.chroma.ChromaValues.{ChromaValues}
 use Rattle.oklab.specs.Okhsl.{settled_okhsl, okhsl_with}
 use Rattle.oklab.specs.Steps.{and_then}
-use Rattle.oklab.proofs.AnswerMeans.{spoiled_refused, unspoiled_passed}
 use Rattle.oklab.proofs.Carries.{follows_ends, follows_asks}
+use Rattle.oklab.proofs.Chromatics.{chromatic_accepted}
 use Rattle.oklab.proofs.OkhslMeans.{okhsl_steps-carried}
-use Rattle.oklab.proofs.OkhslSteps.{stays_same, lab_out_of_range, lost_chroma, at_grey, coloured}
+use Rattle.oklab.proofs.OkhslSteps.{stays_same, not_chromatic, at_grey, coloured}
 use Rattle.oklab.proofs.okhsl.oklab_to_okhsl.Goals as goal
 
-pub returns-then-not-oklab_in_range : goal.returns-then-not-oklab_in_range
-returns-then-not-oklab_in_range g c =
-    let n = g.N.Number in
-    let m = g.B.Boundary.meaning c.args.boundary.now in
-    let v = follows_ends n.means m (Err Range) (lab_out_of_range n.ops n.traced c.args.color c.if-not-oklab_in_range.ensures) refl in
-    record { value = λ _. v; meaning = λ _. (okhsl_steps-carried g.met.N.Number.hom n.traced c.args.color).carries m (Err Range) v; stays = stays_same }
-
-pub returns-in_err-unspoiled : goal.returns-in_err-unspoiled
-returns-in_err-unspoiled g c =
+pub returns-in_err-chromatic : goal.returns-in_err-chromatic
+returns-in_err-chromatic g c =
     let n = g.N.Number in
     let m = g.B.Boundary.meaning c.args.boundary.now in
     let r = c.from_residual.result in
-    let x = c.hypot-chroma.result in
     let p = err_from_is_err_and r c.from_residual.ensures.1 in
-    let w = spoiled_refused n.ops n.traced x c.unspoiled.result c.unspoiled.ensures c.in_err-unspoiled.was in
-    let v = follows_ends n.means m r (lost_chroma n.ops n.traced c.args.color c.if-not-oklab_in_range.ensures x c.hypot-chroma.ensures w.0)
-    (p.1 ∙ ap Err (p.2 ∙ w.1)) in
+    let v = follows_ends n.means m r (not_chromatic n.ops n.traced c.args.color c.of.result c.of.ensures c.in_err-chromatic.was) (p.1 ∙ ap Err p.2) in
     record { value = λ _. v; meaning = λ _. (okhsl_steps-carried g.met.N.Number.hom n.traced c.args.color).carries m r v; stays = stays_same }
 
 pub returns-then-is_grey : goal.returns-then-is_grey
 returns-then-is_grey g c =
     let n = g.N.Number in
     let m = g.B.Boundary.meaning c.args.boundary.now in
-    let r = c.settled_okhsl.result in
-    let x = c.hypot-chroma.result in
-    let kept = unspoiled_passed n.ops n.traced x c.unspoiled.result c.unspoiled.ensures c.in_ok-unspoiled.was in
-    let v = follows_ends n.means m r (at_grey n.ops n.traced c.args.color c.if-not-oklab_in_range.ensures x c.hypot-chroma.ensures kept c.if-is_grey.ensures)
-    (c.settled_okhsl.ensures ∙ ap (settled_okhsl n.ops n.traced) c.okhsl_grey.ensures) in
+    let r = c.settled.result in
+    let known = chromatic_accepted n.ops n.traced c.args.color c.of.result c.of.ensures c.in_ok-chromatic.was in
+    let v = follows_ends n.means m r (at_grey n.ops n.traced c.args.color known c.if-is_grey.ensures)
+    (c.settled.ensures ∙ ap (settled_okhsl n.ops n.traced) c.okhsl_grey.ensures) in
     record { value = λ _. v; meaning = λ _. (okhsl_steps-carried g.met.N.Number.hom n.traced c.args.color).carries m r v; stays = stays_same }
 
 pub returns-in_err-values : goal.returns-in_err-values
@@ -46,13 +34,13 @@ returns-in_err-values g c =
     let n = g.N.Number in
     let m = g.B.Boundary.meaning c.args.boundary.now in
     let r = c.from_residual-in_err-values.result in
-    let x = c.hypot-chroma.result in
-    let next = λ (w : ChromaValues g.row.N.Denot). settled_okhsl n.ops n.traced (okhsl_with n.ops n.traced c.args.color x w) in
-    let kept = unspoiled_passed n.ops n.traced x c.unspoiled.result c.unspoiled.ensures c.in_ok-unspoiled.was in
+    let k = c.in_ok-chromatic.chromatic in
+    let next = λ (w : ChromaValues g.row.N.Denot). settled_okhsl n.ops n.traced (okhsl_with n.ops n.traced k.color k.chroma w) in
+    let known = chromatic_accepted n.ops n.traced c.args.color c.of.result c.of.ensures c.in_ok-chromatic.was in
     let p = err_from_is_err_and r c.from_residual-in_err-values.ensures.1 in
     let e : r ≡ and_then c.query.result next = p.1 ∙ ap Err p.2 ∙ ap (λ q. and_then q next) (sym c.in_err-values.was) in
     let v = λ (h : g.B.Boundary.right c.args.boundary.now). follows_asks n.means m n.ops n.traced next r
-    (coloured n.ops n.traced c.args.color c.if-not-oklab_in_range.ensures x c.hypot-chroma.ensures kept c.if-is_grey.ensures c.div.result c.div-2.result c.div.ensures c.div-2.ensures)
+    (coloured n.ops n.traced c.args.color known c.if-is_grey.ensures c.div.result c.div-2.result c.div.ensures c.div-2.ensures)
     (c.query.ensures.gives h) e in
     record { value = v; meaning = λ h. (okhsl_steps-carried g.met.N.Number.hom n.traced c.args.color).carries m r (v h); stays = c.query.ensures.stays }
 
@@ -60,13 +48,13 @@ pub returns : goal.returns
 returns g c =
     let n = g.N.Number in
     let m = g.B.Boundary.meaning c.args.boundary.now in
-    let r = c.settled_okhsl-2.result in
-    let x = c.hypot-chroma.result in
-    let next = λ (w : ChromaValues g.row.N.Denot). settled_okhsl n.ops n.traced (okhsl_with n.ops n.traced c.args.color x w) in
-    let kept = unspoiled_passed n.ops n.traced x c.unspoiled.result c.unspoiled.ensures c.in_ok-unspoiled.was in
+    let r = c.settled-2.result in
+    let k = c.in_ok-chromatic.chromatic in
+    let next = λ (w : ChromaValues g.row.N.Denot). settled_okhsl n.ops n.traced (okhsl_with n.ops n.traced k.color k.chroma w) in
+    let known = chromatic_accepted n.ops n.traced c.args.color c.of.result c.of.ensures c.in_ok-chromatic.was in
     let e : r ≡ and_then c.query.result next =
-    c.settled_okhsl-2.ensures ∙ ap (settled_okhsl n.ops n.traced) c.okhsl_with.ensures ∙ ap (λ q. and_then q next) (sym c.in_ok-values.was) in
+    c.settled-2.ensures ∙ ap (settled_okhsl n.ops n.traced) c.okhsl_with.ensures ∙ ap (λ q. and_then q next) (sym c.in_ok-values.was) in
     let v = λ (h : g.B.Boundary.right c.args.boundary.now). follows_asks n.means m n.ops n.traced next r
-    (coloured n.ops n.traced c.args.color c.if-not-oklab_in_range.ensures x c.hypot-chroma.ensures kept c.if-is_grey.ensures c.div.result c.div-2.result c.div.ensures c.div-2.ensures)
+    (coloured n.ops n.traced c.args.color known c.if-is_grey.ensures c.div.result c.div-2.result c.div.ensures c.div-2.ensures)
     (c.query.ensures.gives h) e in
     record { value = v; meaning = λ h. (okhsl_steps-carried g.met.N.Number.hom n.traced c.args.color).carries m r (v h); stays = c.query.ensures.stays }

@@ -1,26 +1,16 @@
--- Each way out is the definition; what the answer means follows from that.
-use Rattle.std.proofs.Common.{◌≡◌, Err, ap, ◌∙◌, rules}
-use Rattle.fault.specs.declared.faults.NumberFault.TheVariants.{Range}
-use Rattle.oklab.specs.Okhwb.{map_okhsv}
-use Rattle.boundary.specs.Rule.{meant}
+-- What an answer means follows from what it is.
+use Rattle.std.proofs.Common.{◌≡◌, rules}
 use Rattle.oklab.specs.Okhsv.{okhsv_of_oklab}
+use Rattle.oklab.proofs.Chromatics.{chromatic_accepted}
 use Rattle.oklab.proofs.OkhsvMeans.{okhsv_of_oklab-means}
 use Rattle.oklab.proofs.okhsv.oklab_to_okhsv.Goals as goal
 
-pub returns-then-not-oklab_in_range : goal.returns-then-not-oklab_in_range
-returns-then-not-oklab_in_range g c =
-    let n = g.N.Number in
-    let e : Err Range ≡ okhsv_of_oklab n.ops n.traced c.args.color = search rules in
-    record { value = e; meaning = ap (meant (map_okhsv n.means)) e ∙ okhsv_of_oklab-means g.met.N.Number.hom n.traced c.args.color }
-
-pub returns-in_err-unspoiled : goal.returns-in_err-unspoiled
-returns-in_err-unspoiled g c =
-    let n = g.N.Number in
-    let e : c.from_residual.result ≡ okhsv_of_oklab n.ops n.traced c.args.color = search rules in
-    record { value = e; meaning = ap (meant (map_okhsv n.means)) e ∙ okhsv_of_oklab-means g.met.N.Number.hom n.traced c.args.color }
+pub returns-in_err-chromatic-clause-meaning : goal.returns-in_err-chromatic-clause-meaning
+returns-in_err-chromatic-clause-meaning g c = okhsv_of_oklab-means g.met.N.Number.hom g.N.Number.traced c.args.color c.from_residual.result (search rules)
 
 pub returns : goal.returns
 returns g c =
     let n = g.N.Number in
-    let e : c.settled_okhsv.result ≡ okhsv_of_oklab n.ops n.traced c.args.color = search rules in
-    record { value = e; meaning = ap (meant (map_okhsv n.means)) e ∙ okhsv_of_oklab-means g.met.N.Number.hom n.traced c.args.color }
+    let known = chromatic_accepted n.ops n.traced c.args.color c.of.result c.of.ensures c.in_ok-chromatic.was in
+    let e : c.settled.result ≡ okhsv_of_oklab n.ops n.traced c.args.color = search rules in
+    record { value = e; meaning = okhsv_of_oklab-means g.met.N.Number.hom n.traced c.args.color c.settled.result e }

@@ -1,25 +1,13 @@
--- Each way out is the definition; what the answer means follows from that.
-use Rattle.std.proofs.Common.{◌≡◌, Err, ap, ◌∙◌, rules}
-use Rattle.fault.specs.declared.faults.NumberFault.TheVariants.{Range, Direction}
-use Rattle.boundary.specs.Rule.{meant}
-use Rattle.oklab.specs.Okhwb.{map_okhwb, okhwb_of_okhsv}
+-- What an answer means follows from what it is.
+use Rattle.std.proofs.Common.{rules}
 use Rattle.oklab.proofs.ConversionMeans.{okhwb_of_okhsv-means}
 use Rattle.oklab.proofs.okhwb.okhsv_to_okhwb.Goals as goal
 
-pub returns-then-not-okhsv_in_range : goal.returns-then-not-okhsv_in_range
-returns-then-not-okhsv_in_range g c =
-    let n = g.N.Number in
-    let e : Err Range ≡ okhwb_of_okhsv n.ops n.traced c.args.color = search rules in
-    record { value = e; meaning = ap (meant (map_okhwb n.means)) e ∙ okhwb_of_okhsv-means g.met.N.Number.hom n.traced c.args.color }
+pub returns-in_err-check_range-clause-meaning : goal.returns-in_err-check_range-clause-meaning
+returns-in_err-check_range-clause-meaning g c = okhwb_of_okhsv-means g.met.N.Number.hom g.N.Number.traced c.args.color c.from_residual.result (search rules)
 
-pub returns-then-not-is_direction : goal.returns-then-not-is_direction
-returns-then-not-is_direction g c =
-    let n = g.N.Number in
-    let e : Err Direction ≡ okhwb_of_okhsv n.ops n.traced c.args.color = search rules in
-    record { value = e; meaning = ap (meant (map_okhwb n.means)) e ∙ okhwb_of_okhsv-means g.met.N.Number.hom n.traced c.args.color }
+pub returns-in_err-check_direction-clause-meaning : goal.returns-in_err-check_direction-clause-meaning
+returns-in_err-check_direction-clause-meaning g c = okhwb_of_okhsv-means g.met.N.Number.hom g.N.Number.traced c.args.color c.from_residual-in_err-check_direction.result (search rules)
 
-pub returns : goal.returns
-returns g c =
-    let n = g.N.Number in
-    let e : c.settled_okhwb.result ≡ okhwb_of_okhsv n.ops n.traced c.args.color = search rules in
-    record { value = e; meaning = ap (meant (map_okhwb n.means)) e ∙ okhwb_of_okhsv-means g.met.N.Number.hom n.traced c.args.color }
+pub returns-clause-meaning : goal.returns-clause-meaning
+returns-clause-meaning g c = okhwb_of_okhsv-means g.met.N.Number.hom g.N.Number.traced c.args.color c.settled.result (search rules)

@@ -1,20 +1,10 @@
--- Each way out is the definition; what the answer means follows from that.
-use Rattle.std.proofs.Common.{◌≡◌, Err, ap, ◌∙◌, rules}
-use Rattle.fault.specs.declared.faults.NumberFault.TheVariants.{Range}
-use Rattle.gamut.specs.Maps.{map_oklab}
-use Rattle.boundary.specs.Rule.{meant}
-use Rattle.oklab.specs.Spaces.{oklab_of_xyz}
+-- What an answer means follows from what it is.
+use Rattle.std.proofs.Common.{rules}
 use Rattle.oklab.proofs.ConversionMeans.{oklab_of_xyz-means}
 use Rattle.oklab.proofs.spaces.xyz_to_oklab.Goals as goal
 
-pub returns-then-not-none_spoiled : goal.returns-then-not-none_spoiled
-returns-then-not-none_spoiled g c =
-    let n = g.N.Number in
-    let e : Err Range ≡ oklab_of_xyz n.ops n.traced c.args.color = search rules in
-    record { value = e; meaning = ap (meant (map_oklab n.means)) e ∙ oklab_of_xyz-means g.met.N.Number.hom n.traced c.args.color }
+pub returns-in_err-check_range-clause-meaning : goal.returns-in_err-check_range-clause-meaning
+returns-in_err-check_range-clause-meaning g c = oklab_of_xyz-means g.met.N.Number.hom g.N.Number.traced c.args.color c.from_residual.result (search rules)
 
-pub returns : goal.returns
-returns g c =
-    let n = g.N.Number in
-    let e : c.settled_oklab.result ≡ oklab_of_xyz n.ops n.traced c.args.color = search rules in
-    record { value = e; meaning = ap (meant (map_oklab n.means)) e ∙ oklab_of_xyz-means g.met.N.Number.hom n.traced c.args.color }
+pub returns-clause-meaning : goal.returns-clause-meaning
+returns-clause-meaning g c = oklab_of_xyz-means g.met.N.Number.hom g.N.Number.traced c.args.color c.settled.result (search rules)

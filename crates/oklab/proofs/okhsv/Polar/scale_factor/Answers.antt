@@ -1,7 +1,7 @@
 -- The result by its definition, opened.
 use Rattle.std.proofs.Common.{rules}
 use Rattle.oklab.specs.Okhsv.{scale_factor}
-use Rattle.oklab.proofs.okhsv.scale_factor.Goals as goal
+use Rattle.oklab.proofs.okhsv.Polar.scale_factor.Goals as goal
 
 pub returns : goal.returns
 unfolding scale_factor
