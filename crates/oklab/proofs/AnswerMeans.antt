@@ -6,7 +6,7 @@ use Rattle.gamut.specs.declared.chroma.ChromaValues.{ChromaValues}
 use Rattle.number.specs.Ops.{Ops, Hom}
 use Rattle.boundary.specs.Rule.{meant, untold, admitted}
 use Rattle.boundary.proofs.Rules.{admitted-carried}
-use Rattle.oklab.specs.Checks.{refused_unless, settled}
+use Rattle.oklab.specs.Checks.{settled}
 use Rattle.oklab.specs.Steps.{and_then}
 use Rattle.gamut.specs.Maps.{map_values}
 
@@ -38,12 +38,3 @@ pub asked_means : {N M X Y : Type 0} {f : N → M} {o : Ops N} {p : Ops M} → H
     → meant k (and_then (admitted o traced l v) s) ≡ and_then (admitted p untold (f l) (map_values f v)) t
 asked_means {f = f} {o = o} h traced k l v s t e =
     and_then_means (map_values f) k (admitted o traced l v) s t e ∙ ap (λ r. and_then r t) (admitted-carried h traced l v)
-
--- A test that refuses fails, and the fault is its own.
-pub test_refused : (b : Bool) {e f : NumberFault} (q : Result (Unit {0}) NumberFault) → q ≡ refused_unless b e → q ≡ Err f → (false ≡ b) × (f ≡ e)
-test_refused true q h k = absurd cc
-test_refused false q h k = (refl, cc)
-
-pub test_passed : (b : Bool) (e : NumberFault) (q : Result (Unit {0}) NumberFault) {u : Unit {0}} → q ≡ refused_unless b e → q ≡ Ok u → true ≡ b
-test_passed true e q h k = refl
-test_passed false e q h k = absurd cc

@@ -9,18 +9,6 @@ use Rattle.boundary.specs.Rule.{admitted}
 use Rattle.oklab.specs.Steps.{Steps, ends, asks, then_step, run, Follows, and_then}
 use Rattle.gamut.specs.Maps.{map_values}
 
--- Steps that end in x answer x.
-pub follows_ends : {N X : Type 0} (f : N → Meaning) (g : Gamut) {s : Steps N X} {x : X} (r : X) → s ≡ ends x → r ≡ x → Follows f g s r
-follows_ends f g r e h = rw e h
-
--- Steps that ask answer what is made of the boundary's answer q.
-pub follows_asks : {N X : Type 0} (f : N → Meaning) (g : Gamut) (o : Ops N) (traced : N → Option (ℕ × ℕ)) {s : Steps N (Result X NumberFault)} {l a b : N}
-    (next : ChromaValues N → Result X NumberFault) {q : Result (ChromaValues N) NumberFault} (r : Result X NumberFault)
-    → s ≡ asks l a b (λ v. and_then (admitted o traced l v) next)
-    → (v : ChromaValues N) × (map_values f v ≡ g (query_by f l a b)) × (q ≡ admitted o traced l v)
-    → r ≡ and_then q next → Follows f g s r
-follows_asks f g o traced next r e w h = rw e (w.0, w.1, h ∙ ap (λ x. and_then x next) w.2)
-
 -- Whatever the boundary means, k takes an answer of s to the answer of t.
 pub record Carries {N X Y : Type 0} (f : N → Meaning) (k : X → Y) (s : Steps N X) (t : Steps Meaning Y) : Type 0 where
   pub carries : (g : Gamut) (r : X) → Follows f g s r → k r ≡ run g t
@@ -39,6 +27,18 @@ module _ {N X Y : Type 0} {f : N → Meaning} {k : X → Y} where
       go : (d : Bool) → Carries f k (cond d s s') (cond d t t')
       go true = h
       go false = h'
+
+-- What a conversion's contract says of an answer r where its steps end.
+pub ended : {N X Y : Type 0} {f : N → Meaning} {k : X → Y} {s : Steps N X} {t : Steps Meaning Y} → Carries f k s t → (g : Gamut) (r : X) → s ≡ ends r → Follows f g s r × (k r ≡ run g t)
+ended {f = f} {s = s} c g r e = let v : Follows f g s r = rw e refl in (v, c.carries g r v)
+
+-- And where they ask: it is what is made of the boundary's answer q.
+pub asked : {N X Y : Type 0} {f : N → Meaning} {k : Result X NumberFault → Y} {s : Steps N (Result X NumberFault)} {t : Steps Meaning Y} → Carries f k s t
+    → (g : Gamut) (o : Ops N) (traced : N → Option (ℕ × ℕ)) {l a b : N} (next : ChromaValues N → Result X NumberFault) {q : Result (ChromaValues N) NumberFault} (r : Result X NumberFault)
+    → s ≡ asks l a b (λ v. and_then (admitted o traced l v) next)
+    → (v : ChromaValues N) × (map_values f v ≡ g (query_by f l a b)) × (q ≡ admitted o traced l v)
+    → r ≡ and_then q next → Follows f g s r × (k r ≡ run g t)
+asked {f = f} {s = s} c g o traced next r e w h = let v : Follows f g s r = rw e (w.0, w.1, h ∙ ap (λ x. and_then x next) w.2) in (v, c.carries g r v)
 
 -- An answer of steps that go on with p is p of an answer of the steps.
 pub follows_then : {N X Y : Type 0} (f : N → Meaning) (g : Gamut) (p : X → Y) (s : Steps N X) (r : Y) → Follows f g (then_step p s) r → (x : X) × Follows f g s x × (r ≡ p x)

@@ -19,8 +19,9 @@ use Rattle.srgb_gamut.specs.Cusp.{cusp}
 use Rattle.srgb_gamut.specs.Triangle.{st_of}
 use Rattle.srgb_gamut.proofs.CuspMeans.{cusp-means}
 use Rattle.srgb_gamut.proofs.Maps.{map_lc}
+use Rattle.oklab.specs.Hues.{direction_with}
 use Rattle.oklab.specs.Okhsl.{settled_oklab, grey}
-use Rattle.oklab.specs.Okhsv.{brightest, untoed, scale_factor, oklab_on_triangle, okhsv_on_triangle, to_side, triangle_of, okhsv_grey, okhsv_at, direction_with, okhsv_with_chroma, oklab_of_saturation, oklab_of_okhsv, okhsv_of_chroma, okhsv_of_oklab}
+use Rattle.oklab.specs.Okhsv.{brightest, untoed, scale_factor, oklab_on_triangle, okhsv_on_triangle, to_side, triangle_of, okhsv_grey, okhsv_at, okhsv_with_chroma, oklab_of_saturation, oklab_of_okhsv, okhsv_of_chroma, okhsv_of_oklab}
 use Rattle.oklab.specs.Okhwb.{map_okhsv, settled_okhsv}
 use Rattle.oklab.specs.declared.okhsv.Okhsv.{Okhsv}
 use Rattle.oklab.proofs.AnswerMeans.{cond_means}

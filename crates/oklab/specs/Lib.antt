@@ -1,5 +1,6 @@
 pub mod Steps
 pub mod Checks
+pub mod Hues
 pub mod Okhsl
 pub mod Chromatic
 pub mod Oklch

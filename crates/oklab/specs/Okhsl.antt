@@ -11,6 +11,7 @@ use Rattle.number.specs.Formulas.{hypot}
 use Rattle.number.specs.Ops.{Ops}
 use Rattle.boundary.specs.Rule.{admitted}
 use Rattle.oklab.specs.Checks.{in_unit, hue_and_shares_in_range, settled}
+use Rattle.oklab.specs.Hues.{hue_zero, direction_with}
 use Rattle.oklab.specs.Steps.{Steps, ends, asks, and_then}
 use Rattle.oklab.specs.declared.okhsl.Okhsl.{Okhsl}
 
@@ -57,7 +58,7 @@ module _ {N : Type 0} (o : Ops N) (traced : N → Option (ℕ × ℕ)) where
 
   -- a grey of Okhsl, at hue 0
   abbrev pub okhsl_grey : Oklab N → Okhsl N
-  okhsl_grey c = record { hue = record { a = whole (pos 1); b = whole (pos 0) }; saturation = whole (pos 0); lightness = toe o c.l }
+  okhsl_grey c = record { hue = hue_zero o; saturation = whole (pos 0); lightness = toe o c.l }
 
   -- chroma or lightness is no valid divisor, or lightness is 1
   abbrev pub is_grey : Oklab N → N → Bool
@@ -65,7 +66,7 @@ module _ {N : Type 0} (o : Ops N) (traced : N → Option (ℕ × ℕ)) where
 
   -- the colour with the chroma x and the three numbers v
   abbrev pub okhsl_with : Oklab N → N → ChromaValues N → Okhsl N
-  okhsl_with c x v = record { hue = record { a = div c.a x; b = div c.b x }; saturation = saturation o v x; lightness = toe o c.l }
+  okhsl_with c x v = record { hue = direction_with o c x; saturation = saturation o v x; lightness = toe o c.l }
 
   -- with the chroma x: 8 if it is spoiled, then greys, the query, and 8 on the answer
   abbrev pub okhsl_of_chroma : Oklab N → N → Steps N (Result (Okhsl N) NumberFault)

@@ -13,6 +13,7 @@ use Rattle.number.specs.Ops.{Ops}
 use Rattle.srgb_gamut.specs.declared.triangle.ST.{ST}
 use Rattle.srgb_gamut.specs.Cusp.{cusp}
 use Rattle.srgb_gamut.specs.Triangle.{st_of}
+use Rattle.oklab.specs.Hues.{hue_zero, direction_with}
 use Rattle.oklab.specs.Okhsl.{settled_oklab, grey, oklab_in_range}
 use Rattle.oklab.specs.Okhwb.{settled_okhsv, okhsv_in_range}
 use Rattle.oklab.specs.declared.okhsv.Okhsv.{Okhsv}
@@ -87,20 +88,16 @@ module _ {N : Type 0} (o : Ops N) where
 
   -- a grey of a value, at hue 0
   abbrev pub okhsv_grey : N → Okhsv N
-  okhsv_grey v = record { hue = record { a = one; b = zero }; saturation = zero; value = v }
+  okhsv_grey v = record { hue = hue_zero o; saturation = zero; value = v }
 
   abbrev pub okhsv_at : Oklab N → N → Hue N → ST N → Okhsv N
   okhsv_at c x h g = okhsv_on_triangle c x h g (to_side c x g)
-
-  -- the direction of a colour with the chroma x
-  abbrev pub direction_with : Oklab N → N → Hue N
-  direction_with c x = record { a = c.a / x; b = c.b / x }
 
   -- black, then colours, then greys
   abbrev pub okhsv_with_chroma : Oklab N → N → Okhsv N
   okhsv_with_chroma c x =
       cond (eq c.l zero) (okhsv_grey zero)
-      (cond (divisor x) (okhsv_at c x (direction_with c x) (triangle_of (direction_with c x)))
+      (cond (divisor x) (okhsv_at c x (direction_with o c x) (triangle_of (direction_with o c x)))
       (okhsv_grey (toe o c.l)))
 
   module _ (traced : N → Option (ℕ × ℕ)) where

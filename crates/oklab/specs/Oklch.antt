@@ -8,6 +8,7 @@ use Rattle.gamut.specs.Maps.{map_direction}
 use Rattle.number.specs.Formulas.{hypot}
 use Rattle.number.specs.Ops.{Ops}
 use Rattle.oklab.specs.Checks.{in_unit, settled}
+use Rattle.oklab.specs.Hues.{hue_zero, direction_with}
 use Rattle.oklab.specs.Okhsl.{settled_oklab, oklab_in_range}
 use Rattle.oklab.specs.declared.oklch.Oklch.{Oklch}
 
@@ -16,14 +17,14 @@ module _ {N M : Type 0} (f : N → M) where
   map_oklch c = record { l = f c.l; chroma = f c.chroma; hue = map_direction f c.hue }
 
 module _ {N : Type 0} (o : Ops N) (traced : N → Option (ℕ × ℕ)) where
-  open o use {mul, div, max, eq, spoiled, whole}
+  open o use {mul, max, eq, spoiled, whole}
 
   abbrev pub settled_oklch : Oklch N → Result (Oklch N) NumberFault
   settled_oklch c = settled o traced (c.l ∷ c.chroma ∷ c.hue.a ∷ c.hue.b ∷ []) c
 
   -- the hue of a colour with the chroma x: its direction, or hue 0 when the chroma is 0
   abbrev pub hue_of : Oklab N → N → Hue N
-  hue_of c x = cond (eq x (whole (pos 0))) (record { a = whole (pos 1); b = whole (pos 0) }) (record { a = div c.a x; b = div c.b x })
+  hue_of c x = cond (eq x (whole (pos 0))) (hue_zero o) (direction_with o c x)
 
   -- with the chroma x: 8 if it is spoiled, then on the answer
   abbrev pub oklch_of_chroma : Oklab N → N → Result (Oklch N) NumberFault

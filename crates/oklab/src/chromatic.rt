@@ -1,7 +1,7 @@
 // A colour of Oklab with its chroma, and hues.
 ghost use Rattle.std.specs.Prelude.{◌≡◌};
-ghost use Rattle.oklab.specs.Chromatic.{chromatic_of, hue_zero};
-ghost use Rattle.oklab.specs.Okhsv.{direction_with};
+ghost use Rattle.oklab.specs.Chromatic.{chromatic_of};
+ghost use Rattle.oklab.specs.Hues.{hue_zero, direction_with};
 
 use crate::checks::{check_range, unspoiled};
 use fault::NumberFault;

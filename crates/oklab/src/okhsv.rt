@@ -3,7 +3,8 @@ ghost use Rattle.std.specs.Prelude.{◌≡◌, [], ◌∷◌};
 ghost use Rattle.boundary.specs.Rule.{meant, untold};
 ghost use Rattle.gamut.specs.Maps.{map_oklab};
 ghost use Rattle.gamut.specs.Toe.{toe_inv};
-ghost use Rattle.oklab.specs.Okhsv.{bend as bend_of, brightest as brightest_of, untoed as untoed_of, scale_factor, side_divisor, scaled as scaled_by, oklab_on_triangle, okhsv_at, to_side, side_saturation, direction_with, triangle_of, okhsv_grey, okhsv_with_chroma, oklab_of_saturation, oklab_of_okhsv, okhsv_of_oklab};
+ghost use Rattle.oklab.specs.Hues.{direction_with};
+ghost use Rattle.oklab.specs.Okhsv.{bend as bend_of, brightest as brightest_of, untoed as untoed_of, scale_factor, side_divisor, scaled as scaled_by, oklab_on_triangle, okhsv_at, to_side, side_saturation, triangle_of, okhsv_grey, okhsv_with_chroma, oklab_of_saturation, oklab_of_okhsv, okhsv_of_oklab};
 ghost use Rattle.oklab.specs.Okhwb.{map_okhsv, okhsv_in_range};
 ghost use Rattle.oklab.specs.Polar.{times, side_of};
 
