@@ -1,5 +1,5 @@
 -- Conversions that ask no boundary: what an answer means depends only on what the colour means.
-use Rattle.std.proofs.Common.{◌≡◌, ℕ, [], ◌∷◌, pos, Option, Result, refl, ap, ◌∙◌}
+use Rattle.std.proofs.Common.{◌≡◌, ℕ, pos, Option, Result, refl, ap, ◌∙◌}
 use Rattle.fault.specs.declared.faults.NumberFault.{NumberFault}
 use Rattle.gamut.specs.declared.oklab.Oklab.{Oklab}
 use Rattle.gamut.specs.declared.rgb.LinSrgb.{LinSrgb}
@@ -13,9 +13,9 @@ use Rattle.number.specs.Meaning.{Meaning}
 use Rattle.number.specs.Ops.{Ops, Hom}
 use Rattle.boundary.specs.Rule.{meant, untold}
 use Rattle.oklab.specs.Okhsl.{map_okhsl, settled_oklab}
-use Rattle.oklab.specs.Okhwb.{map_okhsv, map_okhwb, settled_okhsv, settled_okhwb, okhsv_in_range, okhwb_in_range, okhwb_with, okhwb_of_okhsv, okhsv_with, okhsv_of_okhwb}
-use Rattle.oklab.specs.Oklch.{map_oklch, settled_oklch, hue_of, oklch_of_chroma, oklch_of_oklab, oklch_in_range, oklab_with_chroma, oklab_of_oklch}
-use Rattle.oklab.specs.Spaces.{settled_rgb, settled_xyz, none_spoiled, linear_srgb_of_oklab, oklab_of_linear_srgb, xyz_of_oklab, oklab_of_xyz}
+use Rattle.oklab.specs.Okhwb.{okhwb_numbers, okhsv_numbers, map_okhsv, map_okhwb, settled_okhsv, settled_okhwb, okhsv_in_range, okhwb_in_range, okhwb_with, okhwb_of_okhsv, okhsv_with, okhsv_of_okhwb}
+use Rattle.oklab.specs.Oklch.{oklch_numbers, map_oklch, settled_oklch, hue_of, oklch_of_chroma, oklch_of_oklab, oklch_in_range, oklab_with_chroma, oklab_of_oklch}
+use Rattle.oklab.specs.Spaces.{xyz_numbers, rgb_numbers, settled_rgb, settled_xyz, none_spoiled, linear_srgb_of_oklab, oklab_of_linear_srgb, xyz_of_oklab, oklab_of_xyz}
 use Rattle.oklab.specs.Word.{word_of}
 use Rattle.oklab.specs.declared.okhsl.Okhsl.{Okhsl}
 use Rattle.oklab.specs.declared.okhsv.Okhsv.{Okhsv}
@@ -33,9 +33,9 @@ module _ {N : Type 0} {f : N → Meaning} {o : Ops N} {p : Ops Meaning} (h : Hom
 
   oklch_of_chroma-means : (c : Oklab N) (x : N) → meant (map_oklch f) (oklch_of_chroma o traced c x) ≡ oklch_of_chroma p untold (map_oklab f c) (f x)
   oklch_of_chroma-means c x =
-      let hue = hue_of o traced c x in
+      let lch : Oklch N = record { l = c.l; chroma = x; hue = hue_of o traced c x } in
       cond_means (meant (map_oklch f)) _ _ (h.spoiled x) refl
-      (settled-means h traced (map_oklch f) (c.l ∷ x ∷ hue.a ∷ hue.b ∷ []) (record { l = c.l; chroma = x; hue = hue })
+      (settled-means h traced (map_oklch f) (oklch_numbers lch) lch
       ∙ ap (λ d. settled_oklch p untold (record { l = f c.l; chroma = f x; hue = d })) (hue_of-means c x))
 
   pub oklch_of_oklab-means : (c : Oklab N) (r : Result (Oklch N) NumberFault) → r ≡ oklch_of_oklab o traced c → meant (map_oklch f) r ≡ oklch_of_oklab p untold (map_oklab f c)
@@ -70,11 +70,11 @@ module _ {N : Type 0} {f : N → Meaning} {o : Ops N} {p : Ops Meaning} (h : Hom
       let w = okhwb_with o traced c in
       ap (meant (map_okhwb f)) e ∙ cond_means (meant (map_okhwb f)) _ _ (okhsv_in_range-means c)
       (cond_means (meant (map_okhwb f)) _ _ (h.direction c.hue.a c.hue.b)
-      (settled-means h traced (map_okhwb f) (w.hue.a ∷ w.hue.b ∷ w.whiteness ∷ w.blackness ∷ []) w ∙ ap (settled_okhwb p untold) (okhwb_with-means c)) refl)
+      (settled-means h traced (map_okhwb f) (okhwb_numbers w) w ∙ ap (settled_okhwb p untold) (okhwb_with-means c)) refl)
       refl
 
   pub settled_okhsv-means : (c : Okhsv N) → meant (map_okhsv f) (settled_okhsv o traced c) ≡ settled_okhsv p untold (map_okhsv f c)
-  settled_okhsv-means c = settled-means h traced (map_okhsv f) (c.hue.a ∷ c.hue.b ∷ c.saturation ∷ c.value ∷ []) c
+  settled_okhsv-means c = settled-means h traced (map_okhsv f) (okhsv_numbers c) c
 
   okhsv_with-means : (c : Okhwb N) → map_okhsv f (okhsv_with o traced c (o.sub (o.whole (pos 1)) c.blackness)) ≡ okhsv_with p untold (map_okhwb f c) (p.sub (p.whole (pos 1)) (f c.blackness))
   okhsv_with-means c = simp (map_cond f, h.divisor, h.div, h.sub, h.whole)
@@ -86,8 +86,8 @@ module _ {N : Type 0} {f : N → Meaning} {o : Ops N} {p : Ops Meaning} (h : Hom
       (cond_means (meant (map_okhsv f)) _ _ (h.direction c.hue.a c.hue.b) (settled_okhsv-means v ∙ ap (settled_okhsv p untold) (okhsv_with-means c)) refl)
       refl
 
-  pub word_of-means : (c : Okhsl N) (t : N) (r : Result Word NumberFault) → r ≡ word_of o traced c t → r ≡ word_of p untold (map_okhsl f c) (f t)
-  word_of-means c t r e = e ∙ simp (h.spoiled, h.le, h.sub, h.whole, h.direction)
+  pub word_of_means : (c : Okhsl N) (t : N) (r : Result Word NumberFault) → r ≡ word_of o traced c t → r ≡ word_of p untold (map_okhsl f c) (f t)
+  word_of_means c t r e = e ∙ simp (h.spoiled, h.le, h.sub, h.whole, h.direction)
 
   none_spoiled-means : (x y z : N) → none_spoiled o traced x y z ≡ none_spoiled p untold (f x) (f y) (f z)
   none_spoiled-means x y z = simp h.spoiled
@@ -96,7 +96,7 @@ module _ {N : Type 0} {f : N → Meaning} {o : Ops N} {p : Ops Meaning} (h : Hom
   linear_srgb_of_oklab-means c r e =
       let r = oklab_to_linear_srgb o c in
       ap (meant (map_rgb f)) e ∙ cond_means (meant (map_rgb f)) _ _ (oklab_in_range-means h traced c)
-      (settled-means h traced (map_rgb f) (r.red ∷ r.green ∷ r.blue ∷ []) r ∙ ap (settled_rgb p untold) (oklab_to_linear_srgb-means h c)) refl
+      (settled-means h traced (map_rgb f) (rgb_numbers r) r ∙ ap (settled_rgb p untold) (oklab_to_linear_srgb-means h c)) refl
 
   pub oklab_of_linear_srgb-means : (c : LinSrgb N) (r : Result (Oklab N) NumberFault) → r ≡ oklab_of_linear_srgb o traced c → meant (map_oklab f) r ≡ oklab_of_linear_srgb p untold (map_rgb f c)
   oklab_of_linear_srgb-means c r e =
@@ -107,7 +107,7 @@ module _ {N : Type 0} {f : N → Meaning} {o : Ops N} {p : Ops Meaning} (h : Hom
   xyz_of_oklab-means c r e =
       let r = oklab_to_xyz o c in
       ap (meant (map_xyz f)) e ∙ cond_means (meant (map_xyz f)) _ _ (oklab_in_range-means h traced c)
-      (settled-means h traced (map_xyz f) (r.x ∷ r.y ∷ r.z ∷ []) r ∙ ap (settled_xyz p untold) (oklab_to_xyz-means h c)) refl
+      (settled-means h traced (map_xyz f) (xyz_numbers r) r ∙ ap (settled_xyz p untold) (oklab_to_xyz-means h c)) refl
 
   pub oklab_of_xyz-means : (c : Xyz N) (r : Result (Oklab N) NumberFault) → r ≡ oklab_of_xyz o traced c → meant (map_oklab f) r ≡ oklab_of_xyz p untold (map_xyz f c)
   oklab_of_xyz-means c r e =

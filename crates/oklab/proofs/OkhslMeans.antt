@@ -1,5 +1,5 @@
 -- Okhsl to Oklab and back: what an answer means depends only on what the colour and the boundary mean.
-use Rattle.std.proofs.Common.{◌≡◌, ℕ, ◌&&◌, [], ◌∷◌, pos, Option, refl, ap, ◌∙◌}
+use Rattle.std.proofs.Common.{◌≡◌, ℕ, ◌&&◌, pos, Option, refl, ap, ◌∙◌}
 use Rattle.gamut.specs.declared.chroma.ChromaValues.{ChromaValues}
 use Rattle.gamut.specs.declared.oklab.Oklab.{Oklab}
 use Rattle.gamut.specs.Curve.{chroma}
@@ -11,7 +11,7 @@ use Rattle.number.specs.Formulas.{hypot, hypot_of_sizes, size, lengthened}
 use Rattle.number.specs.Meaning.{Meaning}
 use Rattle.number.specs.Ops.{Ops, Hom}
 use Rattle.boundary.specs.Rule.{meant, untold, admitted}
-use Rattle.oklab.specs.Okhsl.{map_okhsl, settled_oklab, settled_okhsl, grey, okhsl_in_range, oklab_with, oklab_steps, oklab_in_range, okhsl_grey, is_grey, okhsl_with, okhsl_of_chroma, okhsl_steps}
+use Rattle.oklab.specs.Okhsl.{oklab_numbers, okhsl_numbers, map_okhsl, settled_oklab, settled_okhsl, grey, okhsl_in_range, oklab_with, oklab_steps, oklab_in_range, okhsl_grey, is_grey, okhsl_with, okhsl_of_chroma, okhsl_steps}
 use Rattle.oklab.specs.Steps.{and_then}
 use Rattle.oklab.specs.declared.okhsl.Okhsl.{Okhsl}
 use Rattle.oklab.proofs.AnswerMeans.{settled-means, asked_means}
@@ -31,10 +31,10 @@ module _ {N : Type 0} {f : N → Meaning} {o : Ops N} {p : Ops Meaning} (h : Hom
 
   module _ (traced : N → Option (ℕ × ℕ)) where
     pub settled_oklab-means : (c : Oklab N) → meant (map_oklab f) (settled_oklab o traced c) ≡ settled_oklab p untold (map_oklab f c)
-    settled_oklab-means c = settled-means h traced (map_oklab f) (c.l ∷ c.a ∷ c.b ∷ []) c
+    settled_oklab-means c = settled-means h traced (map_oklab f) (oklab_numbers c) c
 
     settled_okhsl-means : (c : Okhsl N) → meant (map_okhsl f) (settled_okhsl o traced c) ≡ settled_okhsl p untold (map_okhsl f c)
-    settled_okhsl-means c = settled-means h traced (map_okhsl f) (c.hue.a ∷ c.hue.b ∷ c.saturation ∷ c.lightness ∷ []) c
+    settled_okhsl-means c = settled-means h traced (map_okhsl f) (okhsl_numbers c) c
 
     pub grey-means : (l : N) → map_oklab f (grey o traced l) ≡ grey p untold (f l)
     grey-means l = simp h.whole

@@ -1,5 +1,5 @@
 -- Okhsl to Oklab and back, over any boundary.
-use Rattle.std.specs.Prelude.{ℕ, Bool, cond, not, ◌&&◌, ◌||◌, [], ◌∷◌, pos, Err, Option, Result}
+use Rattle.std.specs.Prelude.{ℕ, Bool, cond, not, ◌&&◌, ◌||◌, List, [], ◌∷◌, pos, Err, Option, Result}
 use Rattle.fault.specs.declared.faults.NumberFault.{NumberFault}
 use Rattle.fault.specs.declared.faults.NumberFault.TheVariants.{Range, Direction, Lost}
 use Rattle.gamut.specs.declared.chroma.ChromaValues.{ChromaValues}
@@ -19,14 +19,21 @@ module _ {N M : Type 0} (f : N → M) where
   abbrev pub map_okhsl : Okhsl N → Okhsl M
   map_okhsl c = record { hue = map_direction f c.hue; saturation = f c.saturation; lightness = f c.lightness }
 
+-- the numbers of a colour, in the order in which an answer's are checked
+abbrev pub oklab_numbers : {N : Type 0} → Oklab N → List N
+oklab_numbers c = c.l ∷ c.a ∷ c.b ∷ []
+
+abbrev pub okhsl_numbers : {N : Type 0} → Okhsl N → List N
+okhsl_numbers c = c.hue.a ∷ c.hue.b ∷ c.saturation ∷ c.lightness ∷ []
+
 module _ {N : Type 0} (o : Ops N) (traced : N → Option (ℕ × ℕ)) where
   open o use {mul, div, eq, spoiled, divisor, whole}
 
   abbrev pub settled_oklab : Oklab N → Result (Oklab N) NumberFault
-  settled_oklab c = settled o traced (c.l ∷ c.a ∷ c.b ∷ []) c
+  settled_oklab c = settled o traced (oklab_numbers c) c
 
   abbrev pub settled_okhsl : Okhsl N → Result (Okhsl N) NumberFault
-  settled_okhsl c = settled o traced (c.hue.a ∷ c.hue.b ∷ c.saturation ∷ c.lightness ∷ []) c
+  settled_okhsl c = settled o traced (okhsl_numbers c) c
 
   -- a grey of Oklab's lightness l
   abbrev pub grey : N → Oklab N

@@ -93,11 +93,15 @@ module _ {N : Type 0} (o : Ops N) where
   abbrev pub okhsv_at : Oklab N → N → Hue N → ST N → Okhsv N
   okhsv_at c x h g = okhsv_on_triangle c x h g (to_side c x g)
 
+  -- the colour with the chroma x, on the triangle of its hue
+  abbrev pub okhsv_coloured : Oklab N → N → Okhsv N
+  okhsv_coloured c x = let h = direction_with o c x in okhsv_at c x h (triangle_of h)
+
   -- black, then colours, then greys
   abbrev pub okhsv_with_chroma : Oklab N → N → Okhsv N
   okhsv_with_chroma c x =
       cond (eq c.l zero) (okhsv_grey zero)
-      (cond (divisor x) (okhsv_at c x (direction_with o c x) (triangle_of (direction_with o c x)))
+      (cond (divisor x) (okhsv_coloured c x)
       (okhsv_grey (toe o c.l)))
 
   module _ (traced : N → Option (ℕ × ℕ)) where

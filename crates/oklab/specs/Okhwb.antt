@@ -1,5 +1,5 @@
 -- Okhsv to Okhwb and back.
-use Rattle.std.specs.Prelude.{ℕ, Bool, cond, not, ◌&&◌, [], ◌∷◌, pos, Err, Option, Result}
+use Rattle.std.specs.Prelude.{ℕ, Bool, cond, not, ◌&&◌, List, [], ◌∷◌, pos, Err, Option, Result}
 use Rattle.fault.specs.declared.faults.NumberFault.{NumberFault}
 use Rattle.fault.specs.declared.faults.NumberFault.TheVariants.{Range, Direction}
 use Rattle.gamut.specs.Maps.{map_direction}
@@ -15,14 +15,21 @@ module _ {N M : Type 0} (f : N → M) where
   abbrev pub map_okhwb : Okhwb N → Okhwb M
   map_okhwb c = record { hue = map_direction f c.hue; whiteness = f c.whiteness; blackness = f c.blackness }
 
+-- the numbers of a colour, in the order in which an answer's are checked
+abbrev pub okhsv_numbers : {N : Type 0} → Okhsv N → List N
+okhsv_numbers c = c.hue.a ∷ c.hue.b ∷ c.saturation ∷ c.value ∷ []
+
+abbrev pub okhwb_numbers : {N : Type 0} → Okhwb N → List N
+okhwb_numbers c = c.hue.a ∷ c.hue.b ∷ c.whiteness ∷ c.blackness ∷ []
+
 module _ {N : Type 0} (o : Ops N) (traced : N → Option (ℕ × ℕ)) where
   open o use {sub, mul, div, le, spoiled, divisor, whole}
 
   abbrev pub settled_okhsv : Okhsv N → Result (Okhsv N) NumberFault
-  settled_okhsv c = settled o traced (c.hue.a ∷ c.hue.b ∷ c.saturation ∷ c.value ∷ []) c
+  settled_okhsv c = settled o traced (okhsv_numbers c) c
 
   abbrev pub settled_okhwb : Okhwb N → Result (Okhwb N) NumberFault
-  settled_okhwb c = settled o traced (c.hue.a ∷ c.hue.b ∷ c.whiteness ∷ c.blackness ∷ []) c
+  settled_okhwb c = settled o traced (okhwb_numbers c) c
 
   -- no number spoiled, saturation and value in 0..1
   abbrev pub okhsv_in_range : Okhsv N → Bool

@@ -1,5 +1,5 @@
 -- Oklab to Oklch, lightness with chroma and hue, and back.
-use Rattle.std.specs.Prelude.{ℕ, Bool, cond, not, ◌&&◌, [], ◌∷◌, pos, Err, Option, Result}
+use Rattle.std.specs.Prelude.{ℕ, Bool, cond, not, ◌&&◌, List, [], ◌∷◌, pos, Err, Option, Result}
 use Rattle.fault.specs.declared.faults.NumberFault.{NumberFault}
 use Rattle.fault.specs.declared.faults.NumberFault.TheVariants.{Range, Direction, Lost}
 use Rattle.gamut.specs.declared.direction.Direction.{Direction as Hue}
@@ -16,11 +16,15 @@ module _ {N M : Type 0} (f : N → M) where
   abbrev pub map_oklch : Oklch N → Oklch M
   map_oklch c = record { l = f c.l; chroma = f c.chroma; hue = map_direction f c.hue }
 
+-- the numbers of a colour, in the order in which an answer's are checked
+abbrev pub oklch_numbers : {N : Type 0} → Oklch N → List N
+oklch_numbers c = c.l ∷ c.chroma ∷ c.hue.a ∷ c.hue.b ∷ []
+
 module _ {N : Type 0} (o : Ops N) (traced : N → Option (ℕ × ℕ)) where
   open o use {mul, max, eq, spoiled, whole}
 
   abbrev pub settled_oklch : Oklch N → Result (Oklch N) NumberFault
-  settled_oklch c = settled o traced (c.l ∷ c.chroma ∷ c.hue.a ∷ c.hue.b ∷ []) c
+  settled_oklch c = settled o traced (oklch_numbers c) c
 
   -- the hue of a colour with the chroma x: its direction, or hue 0 when the chroma is 0
   abbrev pub hue_of : Oklab N → N → Hue N

@@ -1,5 +1,5 @@
 -- Oklab to linear sRGB and XYZ and back, with their refusals: 5, then 8 on the answer.
-use Rattle.std.specs.Prelude.{ℕ, Bool, cond, not, ◌&&◌, [], ◌∷◌, Err, Option, Result}
+use Rattle.std.specs.Prelude.{ℕ, Bool, cond, not, ◌&&◌, List, [], ◌∷◌, Err, Option, Result}
 use Rattle.fault.specs.declared.faults.NumberFault.{NumberFault}
 use Rattle.fault.specs.declared.faults.NumberFault.TheVariants.{Range}
 use Rattle.gamut.specs.declared.oklab.Oklab.{Oklab}
@@ -10,12 +10,19 @@ use Rattle.number.specs.Ops.{Ops}
 use Rattle.oklab.specs.Checks.{settled}
 use Rattle.oklab.specs.Okhsl.{settled_oklab, oklab_in_range}
 
+-- the numbers of a colour, in the order in which an answer's are checked
+abbrev pub rgb_numbers : {N : Type 0} → LinSrgb N → List N
+rgb_numbers c = c.red ∷ c.green ∷ c.blue ∷ []
+
+abbrev pub xyz_numbers : {N : Type 0} → Xyz N → List N
+xyz_numbers c = c.x ∷ c.y ∷ c.z ∷ []
+
 module _ {N : Type 0} (o : Ops N) (traced : N → Option (ℕ × ℕ)) where
   abbrev pub settled_rgb : LinSrgb N → Result (LinSrgb N) NumberFault
-  settled_rgb c = settled o traced (c.red ∷ c.green ∷ c.blue ∷ []) c
+  settled_rgb c = settled o traced (rgb_numbers c) c
 
   abbrev pub settled_xyz : Xyz N → Result (Xyz N) NumberFault
-  settled_xyz c = settled o traced (c.x ∷ c.y ∷ c.z ∷ []) c
+  settled_xyz c = settled o traced (xyz_numbers c) c
 
   -- no number of three is spoiled
   abbrev pub none_spoiled : N → N → N → Bool

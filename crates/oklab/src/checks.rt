@@ -1,7 +1,7 @@
 // The checks of a conversion: the colour's ranges and its direction before it, and spoiled numbers in its answer.
 ghost use Rattle.std.specs.Prelude.{◌≡◌, Bool, List, [], ◌∷◌};
 ghost use Rattle.oklab.specs.Checks.{in_unit, hue_and_shares_in_range, settled, refused_unless};
-ghost use Rattle.oklab.specs.Okhsl.{oklab_in_range};
+ghost use Rattle.oklab.specs.Okhsl.{oklab_numbers, oklab_in_range};
 ghost use Rattle.oklab.specs.Spaces.{none_spoiled};
 
 use fault::NumberFault;
@@ -107,7 +107,7 @@ pub(crate) fn settle_four<N: Number, C: Copy>(
 }
 
 impl<N: Number> Color<N> for Oklab<N> {
-    ghost numbers = { λ c. c.l ∷ c.a ∷ c.b ∷ [] };
+    ghost numbers = { oklab_numbers };
 
     ghost in_range = { oklab_in_range N.ops N.traced };
 

@@ -1,9 +1,9 @@
 // Okhsl, and its conversion from and to Oklab over any boundary.
-ghost use Rattle.std.specs.Prelude.{◌≡◌, [], ◌∷◌};
+ghost use Rattle.std.specs.Prelude.{◌≡◌};
 ghost use Rattle.boundary.specs.Model.{Stays};
 ghost use Rattle.boundary.specs.Rule.{meant, untold};
 ghost use Rattle.gamut.specs.Maps.{map_oklab};
-ghost use Rattle.oklab.specs.Okhsl.{map_okhsl, grey as grey_of, okhsl_in_range, oklab_with, oklab_steps, okhsl_grey, is_grey, okhsl_with, okhsl_steps};
+ghost use Rattle.oklab.specs.Okhsl.{map_okhsl, okhsl_numbers, grey as grey_of, okhsl_in_range, oklab_with, oklab_steps, okhsl_grey, is_grey, okhsl_with, okhsl_steps};
 ghost use Rattle.oklab.specs.Steps.{Follows, run};
 
 use crate::checks::{Color, check_direction, check_range, hue_and_shares_in_range, settle_four};
@@ -26,7 +26,7 @@ pub struct Okhsl<N> {
 }
 
 impl<N: Number> Color<N> for Okhsl<N> {
-    ghost numbers = { λ c. c.hue.a ∷ c.hue.b ∷ c.saturation ∷ c.lightness ∷ [] };
+    ghost numbers = { okhsl_numbers };
 
     ghost in_range = { okhsl_in_range N.ops N.traced };
 

@@ -1,11 +1,10 @@
 // Okhsv, and its conversion from and to Oklab.
-ghost use Rattle.std.specs.Prelude.{◌≡◌, [], ◌∷◌};
+ghost use Rattle.std.specs.Prelude.{◌≡◌};
 ghost use Rattle.boundary.specs.Rule.{meant, untold};
 ghost use Rattle.gamut.specs.Maps.{map_oklab};
 ghost use Rattle.gamut.specs.Toe.{toe_inv};
-ghost use Rattle.oklab.specs.Hues.{direction_with};
-ghost use Rattle.oklab.specs.Okhsv.{bend as bend_of, brightest as brightest_of, untoed as untoed_of, scale_factor, side_divisor, scaled as scaled_by, oklab_on_triangle, okhsv_at, to_side, side_saturation, triangle_of, okhsv_grey, okhsv_with_chroma, oklab_of_saturation, oklab_of_okhsv, okhsv_of_oklab};
-ghost use Rattle.oklab.specs.Okhwb.{map_okhsv, okhsv_in_range};
+ghost use Rattle.oklab.specs.Okhsv.{bend as bend_of, brightest as brightest_of, untoed as untoed_of, scale_factor, side_divisor, scaled as scaled_by, oklab_on_triangle, okhsv_coloured, to_side, side_saturation, triangle_of, okhsv_grey, okhsv_with_chroma, oklab_of_saturation, oklab_of_okhsv, okhsv_of_oklab};
+ghost use Rattle.oklab.specs.Okhwb.{map_okhsv, okhsv_numbers, okhsv_in_range};
 ghost use Rattle.oklab.specs.Polar.{times, side_of};
 
 use crate::checks::{Color, check_direction, check_range, hue_and_shares_in_range, settle_four};
@@ -28,7 +27,7 @@ pub struct Okhsv<N> {
 }
 
 impl<N: Number> Color<N> for Okhsv<N> {
-    ghost numbers = { λ c. c.hue.a ∷ c.hue.b ∷ c.saturation ∷ c.value ∷ [] };
+    ghost numbers = { okhsv_numbers };
 
     ghost in_range = { okhsv_in_range N.ops N.traced };
 
@@ -191,8 +190,8 @@ fn side_saturation<N: Number>(triangle: ST<N>, chroma: N) -> N
     half.add(t).mul(chroma).div(divisor)
 }
 
-fn okhsv_on_triangle<N: Number>(chromatic: Chromatic<N>) -> Okhsv<N>
-    ensures { let hue = direction_with N.ops chromatic.color chromatic.chroma in result ≡ okhsv_at N.ops chromatic.color chromatic.chroma hue (triangle_of N.ops hue) }
+fn okhsv_coloured<N: Number>(chromatic: Chromatic<N>) -> Okhsv<N>
+    ensures { result ≡ okhsv_coloured N.ops chromatic.color chromatic.chroma }
 {
     let color = chromatic.color;
     let hue = chromatic.hue();
@@ -229,7 +228,7 @@ fn okhsv_with_chroma<N: Number>(chromatic: Chromatic<N>) -> Okhsv<N>
     if color.l.eq(N::whole(0)) {
         okhsv_grey(N::whole(0))
     } else if chromatic.chroma.is_valid_divisor() {
-        okhsv_on_triangle(chromatic)
+        okhsv_coloured(chromatic)
     } else {
         okhsv_grey(toe(color.l))
     }

@@ -1,7 +1,7 @@
 // Okhwb, and its conversion from and to Okhsv.
-ghost use Rattle.std.specs.Prelude.{◌≡◌, [], ◌∷◌};
+ghost use Rattle.std.specs.Prelude.{◌≡◌};
 ghost use Rattle.boundary.specs.Rule.{meant, untold};
-ghost use Rattle.oklab.specs.Okhwb.{map_okhsv, map_okhwb, okhwb_in_range, okhwb_with, okhwb_of_okhsv, okhsv_with, okhsv_of_okhwb};
+ghost use Rattle.oklab.specs.Okhwb.{map_okhsv, map_okhwb, okhwb_numbers, okhwb_in_range, okhwb_with, okhwb_of_okhsv, okhsv_with, okhsv_of_okhwb};
 
 use crate::checks::{Color, check_direction, check_range, hue_and_shares_in_range, settle_four};
 use crate::okhsv::Okhsv;
@@ -18,7 +18,7 @@ pub struct Okhwb<N> {
 }
 
 impl<N: Number> Color<N> for Okhwb<N> {
-    ghost numbers = { λ c. c.hue.a ∷ c.hue.b ∷ c.whiteness ∷ c.blackness ∷ [] };
+    ghost numbers = { okhwb_numbers };
 
     ghost in_range = { okhwb_in_range N.ops N.traced };
 

@@ -1,8 +1,8 @@
 // Oklch, and its conversion from and to Oklab.
-ghost use Rattle.std.specs.Prelude.{◌≡◌, [], ◌∷◌};
+ghost use Rattle.std.specs.Prelude.{◌≡◌};
 ghost use Rattle.boundary.specs.Rule.{meant, untold};
 ghost use Rattle.gamut.specs.Maps.{map_oklab};
-ghost use Rattle.oklab.specs.Oklch.{map_oklch, hue_of, oklch_of_oklab, oklch_in_range, oklab_of_oklch};
+ghost use Rattle.oklab.specs.Oklch.{map_oklch, oklch_numbers, hue_of, oklch_of_oklab, oklch_in_range, oklab_of_oklch};
 
 use crate::checks::{Color, check_direction, check_range, is_in_unit, none_spoiled, settle_four};
 use crate::chromatic::{Chromatic, hue_zero};
@@ -20,7 +20,7 @@ pub struct Oklch<N> {
 }
 
 impl<N: Number> Color<N> for Oklch<N> {
-    ghost numbers = { λ c. c.l ∷ c.chroma ∷ c.hue.a ∷ c.hue.b ∷ [] };
+    ghost numbers = { oklch_numbers };
 
     ghost in_range = { oklch_in_range N.ops N.traced };
 

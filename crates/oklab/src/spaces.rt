@@ -1,8 +1,8 @@
 // Oklab from and to linear sRGB and XYZ, with their refusals.
-ghost use Rattle.std.specs.Prelude.{◌≡◌, [], ◌∷◌};
+ghost use Rattle.std.specs.Prelude.{◌≡◌};
 ghost use Rattle.boundary.specs.Rule.{meant, untold};
 ghost use Rattle.gamut.specs.Maps.{map_oklab, map_rgb, map_xyz};
-ghost use Rattle.oklab.specs.Spaces.{none_spoiled, linear_srgb_of_oklab, oklab_of_linear_srgb, xyz_of_oklab, oklab_of_xyz};
+ghost use Rattle.oklab.specs.Spaces.{rgb_numbers, xyz_numbers, none_spoiled, linear_srgb_of_oklab, oklab_of_linear_srgb, xyz_of_oklab, oklab_of_xyz};
 
 use crate::checks::{Color, check_range, none_spoiled, settle_three};
 use fault::NumberFault;
@@ -13,7 +13,7 @@ use gamut::{oklab, xyz};
 use number::Number;
 
 impl<N: Number> Color<N> for LinSrgb<N> {
-    ghost numbers = { λ c. c.red ∷ c.green ∷ c.blue ∷ [] };
+    ghost numbers = { rgb_numbers };
 
     ghost in_range = { λ c. none_spoiled N.ops N.traced c.red c.green c.blue };
 
@@ -27,7 +27,7 @@ impl<N: Number> Color<N> for LinSrgb<N> {
 }
 
 impl<N: Number> Color<N> for Xyz<N> {
-    ghost numbers = { λ c. c.x ∷ c.y ∷ c.z ∷ [] };
+    ghost numbers = { xyz_numbers };
 
     ghost in_range = { λ c. none_spoiled N.ops N.traced c.x c.y c.z };
 
