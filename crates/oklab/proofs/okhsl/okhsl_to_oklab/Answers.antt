@@ -4,7 +4,7 @@ use Rattle.gamut.specs.declared.chroma.ChromaValues.{ChromaValues}
 use Rattle.gamut.specs.Toe.{toe_inv}
 use Rattle.boundary.specs.Rule.{admitted}
 use Rattle.oklab.specs.Okhsl.{settled_oklab, oklab_with, oklab_steps}
-use Rattle.oklab.specs.Steps.{ends, asks, and_then}
+use Rattle.oklab.specs.Steps.{asks, and_then}
 use Rattle.oklab.proofs.Carries.{ended, asked}
 use Rattle.oklab.proofs.OkhslMeans.{oklab_steps-carried}
 use Rattle.oklab.proofs.okhsl.okhsl_to_oklab.Goals as goal
@@ -12,37 +12,25 @@ use Rattle.oklab.proofs.okhsl.okhsl_to_oklab.Goals as goal
 pub returns-in_err-check_range : goal.returns-in_err-check_range
 unfolding oklab_steps
 returns-in_err-check_range g c =
-    let n = g.N.Number in
-    let r = c.from_residual.result in
-    let e : oklab_steps n.ops n.traced c.args.color ≡ ends r = search rules in
-    let v = ended (oklab_steps-carried g.met.N.Number.hom n.traced c.args.color) (g.B.Boundary.meaning c.args.boundary.now) r e in
+    let v = ended (oklab_steps-carried g.met.N.Number.hom g.N.Number.traced c.args.color) (g.B.Boundary.meaning c.args.boundary.now) c.from_residual.result (search rules) in
     record { value = λ _. v.0; meaning = λ _. v.1; stays = search rules }
 
 pub returns-in_err-check_direction : goal.returns-in_err-check_direction
 unfolding oklab_steps
 returns-in_err-check_direction g c =
-    let n = g.N.Number in
-    let r = c.from_residual-in_err-check_direction.result in
-    let e : oklab_steps n.ops n.traced c.args.color ≡ ends r = search rules in
-    let v = ended (oklab_steps-carried g.met.N.Number.hom n.traced c.args.color) (g.B.Boundary.meaning c.args.boundary.now) r e in
+    let v = ended (oklab_steps-carried g.met.N.Number.hom g.N.Number.traced c.args.color) (g.B.Boundary.meaning c.args.boundary.now) c.from_residual-in_err-check_direction.result (search rules) in
     record { value = λ _. v.0; meaning = λ _. v.1; stays = search rules }
 
 pub returns-then-eq : goal.returns-then-eq
 unfolding oklab_steps
 returns-then-eq g c =
-    let n = g.N.Number in
-    let r = c.settled.result in
-    let e : oklab_steps n.ops n.traced c.args.color ≡ ends r = search rules in
-    let v = ended (oklab_steps-carried g.met.N.Number.hom n.traced c.args.color) (g.B.Boundary.meaning c.args.boundary.now) r e in
+    let v = ended (oklab_steps-carried g.met.N.Number.hom g.N.Number.traced c.args.color) (g.B.Boundary.meaning c.args.boundary.now) c.settled.result (search rules) in
     record { value = λ _. v.0; meaning = λ _. v.1; stays = search rules }
 
 pub returns-then-eq-2 : goal.returns-then-eq-2
 unfolding oklab_steps
 returns-then-eq-2 g c =
-    let n = g.N.Number in
-    let r = c.settled-then-eq-2.result in
-    let e : oklab_steps n.ops n.traced c.args.color ≡ ends r = search rules in
-    let v = ended (oklab_steps-carried g.met.N.Number.hom n.traced c.args.color) (g.B.Boundary.meaning c.args.boundary.now) r e in
+    let v = ended (oklab_steps-carried g.met.N.Number.hom g.N.Number.traced c.args.color) (g.B.Boundary.meaning c.args.boundary.now) c.settled-then-eq-2.result (search rules) in
     record { value = λ _. v.0; meaning = λ _. v.1; stays = search rules }
 
 pub returns-in_err-values : goal.returns-in_err-values

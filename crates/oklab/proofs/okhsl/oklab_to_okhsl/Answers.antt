@@ -4,7 +4,7 @@ use Rattle.gamut.specs.declared.chroma.ChromaValues.{ChromaValues}
 use Rattle.number.specs.Formulas.{hypot}
 use Rattle.boundary.specs.Rule.{admitted}
 use Rattle.oklab.specs.Okhsl.{settled_okhsl, okhsl_with, okhsl_steps}
-use Rattle.oklab.specs.Steps.{ends, asks, and_then}
+use Rattle.oklab.specs.Steps.{asks, and_then}
 use Rattle.oklab.proofs.Carries.{ended, asked}
 use Rattle.oklab.proofs.Chromatics.{chromatic_accepted}
 use Rattle.oklab.proofs.OkhslMeans.{okhsl_steps-carried}
@@ -13,20 +13,15 @@ use Rattle.oklab.proofs.okhsl.oklab_to_okhsl.Goals as goal
 pub returns-in_err-chromatic : goal.returns-in_err-chromatic
 unfolding okhsl_steps
 returns-in_err-chromatic g c =
-    let n = g.N.Number in
-    let r = c.from_residual.result in
-    let e : okhsl_steps n.ops n.traced c.args.color ≡ ends r = search rules in
-    let v = ended (okhsl_steps-carried g.met.N.Number.hom n.traced c.args.color) (g.B.Boundary.meaning c.args.boundary.now) r e in
+    let v = ended (okhsl_steps-carried g.met.N.Number.hom g.N.Number.traced c.args.color) (g.B.Boundary.meaning c.args.boundary.now) c.from_residual.result (search rules) in
     record { value = λ _. v.0; meaning = λ _. v.1; stays = search rules }
 
 pub returns-then-is_grey : goal.returns-then-is_grey
 unfolding okhsl_steps
 returns-then-is_grey g c =
     let n = g.N.Number in
-    let r = c.settled.result in
     let known = chromatic_accepted n.ops n.traced c.args.color c.of.result c.of.ensures c.in_ok-chromatic.was in
-    let e : okhsl_steps n.ops n.traced c.args.color ≡ ends r = search rules in
-    let v = ended (okhsl_steps-carried g.met.N.Number.hom n.traced c.args.color) (g.B.Boundary.meaning c.args.boundary.now) r e in
+    let v = ended (okhsl_steps-carried g.met.N.Number.hom g.N.Number.traced c.args.color) (g.B.Boundary.meaning c.args.boundary.now) c.settled.result (search rules) in
     record { value = λ _. v.0; meaning = λ _. v.1; stays = search rules }
 
 pub returns-in_err-values : goal.returns-in_err-values
