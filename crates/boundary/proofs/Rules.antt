@@ -55,9 +55,8 @@ accepted {N = N} o traced l v w e = go (refuses o l v) e
     go false e = (refl, grind arith)
 
 -- Two calls, one after the other.
-pub stays_on : {S : Type 0} {right : S → Type 0} {meaning : S → Gamut} {model : S → Model} {s t u : S} → Stays right meaning model s t → Stays right meaning model t u → Stays right meaning model s u
+pub stays_on : {S : Type 0} {meaning : S → Gamut} {model : S → Model} {s t u : S} → Stays meaning model s t → Stays meaning model t u → Stays meaning model s u
 stays_on a b = record {
-  stays_right = λ h. b.stays_right (a.stays_right h);
   same_meaning = b.same_meaning ∙ a.same_meaning;
   same_model = b.same_model ∙ a.same_model;
 }

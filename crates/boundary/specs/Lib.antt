@@ -1,6 +1,7 @@
 pub mod Query
 pub mod Rule
 pub mod Model
+pub mod Kept
 pub mod Triangles
 pub mod Margins
 pub mod Memos

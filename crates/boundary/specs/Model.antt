@@ -4,8 +4,9 @@ use Rattle.fault.specs.declared.faults.NumberFault.{NumberFault}
 use Rattle.gamut.specs.declared.chroma.ChromaValues.{ChromaValues}
 use Rattle.number.specs.Meaning.{Meaning}
 use Rattle.number.specs.Ops.{Ops}
-use Rattle.boundary.specs.Query.{Query, Gamut}
+use Rattle.boundary.specs.Query.{Gamut}
 use Rattle.boundary.specs.Rule.{admitted, untold}
+use Rattle.boundary.specs.declared.query.Query.{Query}
 
 -- the factors from the top of the stack down
 pub record Model : Type 0 where
@@ -16,7 +17,7 @@ pub record Model : Type 0 where
 abbrev pub of_base : Gamut → Model
 of_base g = record { base = g; factors = [] }
 
--- It keeps nothing: it is right and fresh at any time.
+-- It keeps nothing: it is fresh at any time.
 abbrev pub always : {S : Type 0} → S → Type 0
 always s = Unit {0}
 
@@ -46,13 +47,7 @@ module _ (o : Ops Meaning) where
   abbrev pub answered : Gamut → Query Meaning → Result (ChromaValues Meaning) NumberFault
   answered g q = admitted o untold q.lightness (g q)
 
--- What a call leaves: a stack of the same meaning and the same model, and a right one right.
-pub record Stays {S : Type 0} (right : S → Type 0) (meaning : S → Gamut) (model : S → Model) (s t : S) : Type 0 where
-  pub stays_right : right s → right t
+-- What a call leaves: a stack of the same meaning and the same model.
+pub record Stays {S : Type 0} (meaning : S → Gamut) (model : S → Model) (s t : S) : Type 0 where
   pub same_meaning : meaning t ≡ meaning s
   pub same_model : model t ≡ model s
-
--- What is made over a boundary is right where that boundary is, and fresh where it is fresh.
-pub record Stacks {B S : Type 0} (right fresh : B → Type 0) (right_stack fresh_stack : S → Type 0) (below : B) (stack : S) : Type 0 where
-  pub stacks_right : right below → right_stack stack
-  pub stacks_fresh : fresh below → fresh_stack stack

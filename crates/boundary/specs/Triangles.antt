@@ -5,8 +5,9 @@ use Rattle.fault.specs.declared.faults.NumberFault.TheVariants.{Range}
 use Rattle.gamut.specs.declared.chroma.ChromaValues.{ChromaValues}
 use Rattle.number.specs.Meaning.{Meaning}
 use Rattle.number.specs.Ops.{Ops}
-use Rattle.boundary.specs.Query.{Query, Gamut}
+use Rattle.boundary.specs.Query.{Gamut}
 use Rattle.boundary.specs.Model.{Model, of_base}
+use Rattle.boundary.specs.declared.query.Query.{Query}
 use Rattle.boundary.specs.declared.triangle.Triangle.{Triangle}
 
 module _ {N : Type 0} (o : Ops N) where

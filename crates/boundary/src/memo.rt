@@ -1,14 +1,16 @@
 // A memo over a boundary.
 ghost use Rattle.std.specs.Prelude.{◌≡◌, None};
 ghost use Rattle.gamut.specs.declared.chroma.ChromaValues.{ChromaValues as Values};
-ghost use Rattle.boundary.specs.Query.{query_by};
+ghost use Rattle.boundary.specs.Query.{map_query};
 ghost use Rattle.boundary.specs.Rule.{meant, admitted};
-ghost use Rattle.boundary.specs.Model.{answered, Stays, Stacks};
-ghost use Rattle.boundary.specs.Memos.{after, recalled_from, Recalls, memo_meaning, memo_model, MemoRight, MemoFresh};
+ghost use Rattle.boundary.specs.Model.{answered, Stays};
+ghost use Rattle.boundary.specs.Kept.{after, recalled_from, KeptRight};
 ghost use Rattle.gamut.specs.Maps.{map_values};
 ghost use Rattle.std.proofs.Common.{rules};
+ghost use Rattle.std.proofs.Props.{props};
 
 use crate::boundary::{Boundary, admit};
+use crate::query::Query;
 use fault::NumberFault;
 use gamut::chroma::ChromaValues;
 use number::Number;
@@ -16,25 +18,26 @@ use number::Number;
 /// A query with its answer.
 #[derive(Clone, Copy)]
 pub struct Kept<N> {
-    pub lightness: N,
-    pub a: N,
-    pub b: N,
+    pub query: Query<N>,
     pub answer: ChromaValues<N>,
 }
 
 /// Keeps the last accepted query with its answer, and answers it again without the boundary below.
 #[derive(Drop)]
-pub struct Memo<N, B> {
+pub struct Memo<N: Number, B: Boundary<N>> {
     below: B,
     kept: Option<Kept<N>>,
+    ghost right: { KeptRight N.means (B.meaning below) kept } by { Prim.hlevel props },
 }
 
 impl<N: Number, B: Boundary<N>> Memo<N, B> {
+    ghost use Rattle.boundary.specs.Memos.{memo_model, MemoFresh};
+
     /// An empty memo over the boundary.
     pub fn new(below: B) -> Memo<N, B>
-        ensures which { result ≡ record { below = below; kept = None } }
-        ensures model { memo_model B.model result ≡ B.model below }
-        ensures stacks { Stacks B.right B.fresh (MemoRight N.means B.meaning B.right) (MemoFresh B.fresh) below result }
+        ensures which { result ≡ record { below = below; kept = None; right = tt } }
+        ensures model { memo_model result ≡ B.model below }
+        ensures fresh { B.fresh below → MemoFresh result }
     {
         Memo { below, kept: None }
     }
@@ -48,85 +51,65 @@ impl<N: Number, B: Boundary<N>> Memo<N, B> {
 }
 
 // What is kept for a query.
-fn recall<N: Number>(kept: Option<Kept<N>>, lightness: N, a: N, b: N) -> Option<ChromaValues<N>>
-    ensures { result ≡ recalled_from N.ops kept lightness a b }
+fn recall<N: Number>(kept: Option<Kept<N>>, query: &Query<N>) -> Option<ChromaValues<N>>
+    ensures { result ≡ recalled_from N.ops kept query.now }
 {
-    match kept {
-        Some(k) => {
-            if k.lightness.same(lightness) && k.a.same(a) && k.b.same(b) {
-                Some(k.answer)
-            } else {
-                None
-            }
-        }
-        None => None,
-    }
+    kept.filter(|k| k.query.same(query)).map(|k| k.answer)
 }
 
 // What to keep after a query that was not recalled.
-fn keep<N: Number>(
-    kept: Option<Kept<N>>,
-    lightness: N,
-    a: N,
-    b: N,
-    v: ChromaValues<N>,
-) -> Option<Kept<N>>
-    ensures { result ≡ after kept lightness a b (admitted N.ops N.traced lightness v) }
+fn keep<N: Number>(kept: Option<Kept<N>>, query: &Query<N>, v: ChromaValues<N>) -> Option<Kept<N>>
+    ensures { result ≡ after kept query.now (admitted N.ops N.traced query.now.lightness v) }
 {
-    let latest = Kept {
-        lightness,
-        a,
-        b,
-        answer: v,
-    };
-    match admit(lightness, v) {
-        Ok(_) => Some(latest),
-        Err(_) => kept,
-    }
+    admit(query.lightness, v)
+        .ok()
+        .map(|answer| Kept {
+            query: *query,
+            answer,
+        })
+        .or(kept)
 }
 
 impl<N: Number, B: Boundary<N>> Boundary<N> for Memo<N, B> {
-    ghost meaning = { memo_meaning B.meaning };
+    ghost use Rattle.boundary.specs.Memos.{memo_meaning, memo_model, MemoFresh, Recalls};
 
-    ghost model = { memo_model B.model };
+    ghost meaning = { memo_meaning };
 
-    ghost right = { MemoRight N.means B.meaning B.right };
+    ghost model = { memo_model };
 
-    ghost fresh = { MemoFresh B.fresh };
+    ghost fresh = { MemoFresh };
 
     ghost as_modelled = { Prim.search rules };
 
-    ghost sound = { Prim.search rules };
-
     /// Recalls the kept query's three numbers; those of another query come from below, and an accepted one is kept.
-    fn values(&mut self, lightness: N, a: N, b: N) -> ChromaValues<N>
-        ensures gives { MemoRight N.means B.meaning B.right self.old → map_values N.means result ≡ memo_meaning B.meaning self.old (query_by N.means lightness a b) }
-        ensures stays { Stays (MemoRight N.means B.meaning B.right) (memo_meaning B.meaning) (memo_model B.model) self.old self.new }
-        ensures recalls { Recalls N.means (λ k. k.answer) (λ v. after self.old.kept lightness a b (admitted N.ops N.traced lightness v)) self.old lightness a b result self.new }
+    fn values(&mut self, query: &Query<N>) -> ChromaValues<N>
+        ensures gives { map_values N.means result ≡ memo_meaning self.old (map_query N.means query.now) }
+        ensures stays { Stays memo_meaning memo_model self.old self.new }
+        ensures recalls { Recalls (λ k. k.answer) (λ v. after self.old.kept query.now (admitted N.ops N.traced query.now.lightness v)) self.old query.now result self.new }
     {
-        if let Some(v) = recall(self.kept, lightness, a, b) {
+        if let Some(v) = recall(self.kept, query) {
             return v;
         }
-        let v = self.below.values(lightness, a, b);
-        self.kept = keep(self.kept, lightness, a, b, v);
+        let v = self.below.values(query);
+        self.kept = keep(self.kept, query, v);
         v
     }
 
     /// The same with the rule of refusal.
-    fn query(&mut self, lightness: N, a: N, b: N) -> Result<ChromaValues<N>, NumberFault>
-        ensures gives { MemoRight N.means B.meaning B.right self.old → (v : Values N) × (map_values N.means v ≡ memo_meaning B.meaning self.old (query_by N.means lightness a b)) × (result ≡ admitted N.ops N.traced lightness v) }
-        ensures means { MemoRight N.means B.meaning B.right self.old → meant (map_values N.means) result ≡ answered N.arith (memo_meaning B.meaning self.old) (query_by N.means lightness a b) }
-        ensures stays { Stays (MemoRight N.means B.meaning B.right) (memo_meaning B.meaning) (memo_model B.model) self.old self.new }
-        ensures recalls { Recalls N.means (λ k. admitted N.ops N.traced lightness k.answer) (after self.old.kept lightness a b) self.old lightness a b result self.new }
+    fn query(&mut self, query: &Query<N>) -> Result<ChromaValues<N>, NumberFault>
+        ensures gives { (v : Values N) × (map_values N.means v ≡ memo_meaning self.old (map_query N.means query.now)) × (result ≡ admitted N.ops N.traced query.now.lightness v) }
+        ensures means { meant (map_values N.means) result ≡ answered N.arith (memo_meaning self.old) (map_query N.means query.now) }
+        ensures stays { Stays memo_meaning memo_model self.old self.new }
+        ensures recalls { Recalls (λ k. admitted N.ops N.traced query.now.lightness k.answer) (after self.old.kept query.now) self.old query.now result self.new }
     {
-        let v = self.values(lightness, a, b);
-        admit(lightness, v)
+        let v = self.values(query);
+        admit(query.lightness, v)
     }
 
     /// Empties the memo, and those below.
     fn forget(&mut self)
-        ensures emptied { MemoRight N.means B.meaning B.right self.old → MemoFresh B.fresh self.new }
-        ensures stays { Stays (MemoRight N.means B.meaning B.right) (memo_meaning B.meaning) (memo_model B.model) self.old self.new }
+        ensures emptied { MemoFresh self.new }
+        ensures stays { Stays memo_meaning memo_model self.old self.new }
         ensures forgets { self.new.kept ≡ None }
     {
         self.kept = None;

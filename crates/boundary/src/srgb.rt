@@ -1,14 +1,14 @@
 // The gamut of sRGB, a base.
 ghost use Rattle.std.specs.Prelude.{◌≡◌};
 ghost use Rattle.boundary.specs.Model.{always, Stays};
-ghost use Rattle.boundary.specs.Query.{query_by};
+ghost use Rattle.boundary.specs.Query.{map_query};
 ghost use Rattle.boundary.specs.Srgbs.{srgb_at, srgb_meaning, srgb_model};
 ghost use Rattle.gamut.specs.Maps.{map_values};
 ghost use Rattle.std.proofs.Common.{rules};
 
 use crate::boundary::Boundary;
+use crate::query::Query;
 use gamut::chroma::ChromaValues;
-use gamut::direction::Direction;
 use number::Number;
 use srgb_gamut::from_normalized;
 
@@ -30,27 +30,23 @@ impl<N: Number> Boundary<N> for Srgb {
 
     ghost model = { srgb_model N.arith };
 
-    ghost right = { always };
-
     ghost fresh = { always };
 
     ghost as_modelled = { Prim.search rules };
 
-    ghost sound = { Prim.search rules };
-
-    fn values(&mut self, lightness: N, a: N, b: N) -> ChromaValues<N>
-        ensures gives { always self.old → map_values N.means result ≡ srgb_meaning N.arith self.old (query_by N.means lightness a b) }
-        ensures stays { Stays always (srgb_meaning N.arith) (srgb_model N.arith) self.old self.new }
-        ensures which { result ≡ srgb_at N.ops (record { lightness = lightness; a = a; b = b }) }
+    fn values(&mut self, query: &Query<N>) -> ChromaValues<N>
+        ensures gives { map_values N.means result ≡ srgb_meaning N.arith self.old (map_query N.means query.now) }
+        ensures stays { Stays (srgb_meaning N.arith) (srgb_model N.arith) self.old self.new }
+        ensures which { result ≡ srgb_at N.ops query.now }
         ensures same { self.new ≡ self.old }
     {
-        from_normalized(lightness, Direction { a, b })
+        from_normalized(query.lightness, query.hue)
     }
 
     /// sRGB has nothing to forget.
     fn forget(&mut self)
-        ensures emptied { always self.old → always self.new }
-        ensures stays { Stays always (srgb_meaning N.arith) (srgb_model N.arith) self.old self.new }
+        ensures emptied { always self.new }
+        ensures stays { Stays (srgb_meaning N.arith) (srgb_model N.arith) self.old self.new }
         ensures same { self.new ≡ self.old }
     {}
 }

@@ -3,7 +3,7 @@ use Rattle.std.proofs.Common.{◌≡◌, ℕ, ◌&&◌, pos, Option, refl, ap, �
 use Rattle.gamut.specs.declared.chroma.ChromaValues.{ChromaValues}
 use Rattle.gamut.specs.declared.oklab.Oklab.{Oklab}
 use Rattle.gamut.specs.Curve.{chroma}
-use Rattle.gamut.specs.Maps.{map_oklab, map_values}
+use Rattle.gamut.specs.Maps.{map_direction, map_oklab, map_values}
 use Rattle.gamut.specs.Toe.{toe_inv}
 use Rattle.gamut.proofs.CurveMeans.{map_cond, chroma_means, saturation-means}
 use Rattle.gamut.proofs.ToeMeans.{toe-means, toe_inv-means}
@@ -69,7 +69,7 @@ module _ {N : Type 0} {f : N → Meaning} {o : Ops N} {p : Ops Meaning} (h : Hom
         (carries_ends (settled_oklab-means (grey o traced white) ∙ ap (settled_oklab p untold) (grey-means white ∙ ap (grey p untold) (h.whole (pos 1)))))
         (carries_cond (h.eq c.lightness black ∙ ap (p.eq (f c.lightness)) (h.whole (pos 0)))
         (carries_ends (settled_oklab-means (grey o traced black) ∙ ap (settled_oklab p untold) (grey-means black ∙ ap (grey p untold) (h.whole (pos 0)))))
-        (carries_asks (toe_inv-means h c.lightness) refl refl (λ v.
+        (carries_asks (λ i. record { lightness = toe_inv-means h c.lightness i; hue = map_direction f c.hue }) (λ v.
         asked_means h traced (map_oklab f) l v (λ w. settled_oklab o traced (oklab_with o traced c l w)) (λ w. settled_oklab p untold (oklab_with p untold (map_okhsl f c) (f l) w))
         (λ w. settled_oklab-means (oklab_with o traced c l w) ∙ ap (settled_oklab p untold) (oklab_with-means c l w))
         ∙ ap (λ m. and_then (admitted p untold m (map_values f v)) (λ w. settled_oklab p untold (oklab_with p untold (map_okhsl f c) m w))) (toe_inv-means h c.lightness)))))
@@ -80,7 +80,7 @@ module _ {N : Type 0} {f : N → Meaning} {o : Ops N} {p : Ops Meaning} (h : Hom
     okhsl_of_chroma-carried c x =
         carries_cond (h.spoiled x) (carries_ends refl)
         (carries_cond (is_grey-means c x) (carries_ends (settled_okhsl-means (okhsl_grey o traced c) ∙ ap (settled_okhsl p untold) (okhsl_grey-means c)))
-        (carries_asks refl (h.div c.a x) (h.div c.b x) (λ v.
+        (carries_asks (λ i. record { lightness = f c.l; hue = record { a = h.div c.a x i; b = h.div c.b x i } }) (λ v.
         asked_means h traced (map_okhsl f) c.l v (λ w. settled_okhsl o traced (okhsl_with o traced c x w)) (λ w. settled_okhsl p untold (okhsl_with p untold (map_oklab f c) (f x) w))
         (λ w. settled_okhsl-means (okhsl_with o traced c x w) ∙ ap (settled_okhsl p untold) (okhsl_with-means c x w)))))
 

@@ -54,7 +54,7 @@ module _ {N : Type 0} (o : Ops N) (traced : N → Option (ℕ × ℕ)) where
       (cond (o.direction c.hue.a c.hue.b)
       (cond (eq c.lightness (whole (pos 1))) (ends (settled_oklab (grey (whole (pos 1)))))
       (cond (eq c.lightness (whole (pos 0))) (ends (settled_oklab (grey (whole (pos 0)))))
-      (asks (toe_inv o c.lightness) c.hue.a c.hue.b
+      (asks (record { lightness = toe_inv o c.lightness; hue = c.hue })
       (λ v. and_then (admitted o traced (toe_inv o c.lightness) v) (λ w. settled_oklab (oklab_with c (toe_inv o c.lightness) w))))))
       (ends (Err Direction)))
       (ends (Err Range))
@@ -80,7 +80,7 @@ module _ {N : Type 0} (o : Ops N) (traced : N → Option (ℕ × ℕ)) where
   okhsl_of_chroma c x =
       cond (spoiled x) (ends (Err (Lost (traced x))))
       (cond (is_grey c x) (ends (settled_okhsl (okhsl_grey c)))
-      (asks c.l (div c.a x) (div c.b x)
+      (asks (record { lightness = c.l; hue = direction_with o c x })
       (λ v. and_then (admitted o traced c.l v) (λ w. settled_okhsl (okhsl_with c x w)))))
 
   -- Oklab to Okhsl.

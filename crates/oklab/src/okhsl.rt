@@ -8,7 +8,7 @@ ghost use Rattle.oklab.specs.Steps.{Follows, run};
 
 use crate::checks::{Color, check_direction, check_range, hue_and_shares_in_range, settle_four};
 use crate::chromatic::{Chromatic, hue_zero};
-use boundary::Boundary;
+use boundary::{Boundary, Query};
 use fault::NumberFault;
 use gamut::chroma::ChromaValues;
 use gamut::curve::{chroma_of, saturation_of};
@@ -71,9 +71,9 @@ pub fn okhsl_to_oklab<N: Number, B: Boundary<N>>(
     color: Okhsl<N>,
     boundary: &mut B,
 ) -> Result<Oklab<N>, NumberFault>
-    ensures value { B.right boundary.old → Follows N.means (B.meaning boundary.old) (oklab_steps N.ops N.traced color) result }
-    ensures meaning { B.right boundary.old → meant (map_oklab N.means) result ≡ run (B.meaning boundary.old) (oklab_steps N.arith untold (map_okhsl N.means color)) }
-    ensures stays { Stays B.right B.meaning B.model boundary.old boundary.new }
+    ensures value { Follows N.means (B.meaning boundary.old) (oklab_steps N.ops N.traced color) result }
+    ensures meaning { meant (map_oklab N.means) result ≡ run (B.meaning boundary.old) (oklab_steps N.arith untold (map_okhsl N.means color)) }
+    ensures stays { Stays B.meaning B.model boundary.old boundary.new }
 {
     check_range(color)?;
     let hue = color.hue;
@@ -85,7 +85,7 @@ pub fn okhsl_to_oklab<N: Number, B: Boundary<N>>(
         return grey(N::whole(0)).settled();
     }
     let l = toe_inv(color.lightness);
-    let values = boundary.query(l, hue.a, hue.b)?;
+    let values = boundary.query(&Query { lightness: l, hue })?;
     oklab_with(color, l, values).settled()
 }
 
@@ -127,15 +127,18 @@ pub fn oklab_to_okhsl<N: Number, B: Boundary<N>>(
     color: Oklab<N>,
     boundary: &mut B,
 ) -> Result<Okhsl<N>, NumberFault>
-    ensures value { B.right boundary.old → Follows N.means (B.meaning boundary.old) (okhsl_steps N.ops N.traced color) result }
-    ensures meaning { B.right boundary.old → meant (map_okhsl N.means) result ≡ run (B.meaning boundary.old) (okhsl_steps N.arith untold (map_oklab N.means color)) }
-    ensures stays { Stays B.right B.meaning B.model boundary.old boundary.new }
+    ensures value { Follows N.means (B.meaning boundary.old) (okhsl_steps N.ops N.traced color) result }
+    ensures meaning { meant (map_okhsl N.means) result ≡ run (B.meaning boundary.old) (okhsl_steps N.arith untold (map_oklab N.means color)) }
+    ensures stays { Stays B.meaning B.model boundary.old boundary.new }
 {
     let chromatic = Chromatic::of(color)?;
     if is_grey(chromatic) {
         return okhsl_grey(color).settled();
     }
-    let chroma = chromatic.chroma;
-    let values = boundary.query(color.l, color.a.div(chroma), color.b.div(chroma))?;
+    let hue = chromatic.hue();
+    let values = boundary.query(&Query {
+        lightness: color.l,
+        hue,
+    })?;
     okhsl_with(chromatic, values).settled()
 }

@@ -18,6 +18,7 @@ use Rattle.gamut.specs.declared.direction.Direction.{Direction}
 use Rattle.gamut.specs.declared.oklab.Oklab.{Oklab}
 use Rattle.boundary.specs.Query.{Gamut}
 use Rattle.boundary.specs.Rule.{admitted, untold}
+use Rattle.oklab.specs.Hues.{direction_with}
 use Rattle.oklab.specs.Okhsl.{oklab_in_range, okhsl_grey, is_grey, okhsl_with, okhsl_of_chroma, okhsl_steps, settled_okhsl}
 use Rattle.oklab.specs.Steps.{Steps, ends, asks, run, and_then}
 use Rattle.oklab.specs.declared.okhsl.Okhsl.{Okhsl}
@@ -47,7 +48,7 @@ module _ (o : Ops Meaning) (g : Gamut) (c : Oklab Meaning) (h : Okhsl Meaning) w
     grey = ends (settled_okhsl o untold (okhsl_grey o untold c))
 
     abbrev query : Steps Meaning (Result (Okhsl Meaning) NumberFault)
-    query = asks c.l (o.div c.a x) (o.div c.b x) (λ v. and_then (admitted o untold c.l v) (λ w. settled_okhsl o untold (okhsl_with o untold c x w)))
+    query = asks (record { lightness = c.l; hue = direction_with o c x }) (λ v. and_then (admitted o untold c.l v) (λ w. settled_okhsl o untold (okhsl_with o untold c x w)))
 
     chroma_unspoiled : run g (okhsl_of_chroma o untold c x) ≡ Ok h → o.spoiled x ≡ false
     chroma_unspoiled e = go (o.spoiled x) refl e
@@ -126,6 +127,6 @@ module _ (o : Ops Meaning) (E : Exactness o) (g : Gamut) (l : Rational) (d : Dir
         let (u, eh) = settled_ok o (numbers h') h' es in
         let ea = sure (quotient o E x p d.a) (alive o E u.0) in
         let eb = sure (quotient o E x p d.b) (alive o E u.1.0) in
-        let at : record { lightness = fraction l; a = o.div c.a (fraction x); b = o.div c.b (fraction x) } ≡ place l d = λ i. record { lightness = fraction l; a = ea i; b = eb i } in
+        let at : record { lightness = fraction l; hue = direction_with o c (fraction x) } ≡ place l d = λ i. record { lightness = fraction l; hue = record { a = ea i; b = eb i } } in
         let same : w ≡ map_values fraction v = sym (admitted_ok o E (fraction l) _ ew).1 ∙ ap g at ∙ given in
         sym eh ∙ ap (okhsl_with o untold c (fraction x)) same

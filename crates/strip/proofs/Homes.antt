@@ -4,7 +4,8 @@ use Rattle.fault.specs.declared.faults.RowFault.{RowFault}
 use Rattle.gamut.specs.declared.oklab.Oklab.{Oklab}
 use Rattle.number.specs.Meaning.{Meaning}
 use Rattle.number.specs.Ops.{Ops}
-use Rattle.boundary.specs.Query.{Query, Gamut}
+use Rattle.boundary.specs.Query.{Gamut}
+use Rattle.boundary.specs.declared.query.Query.{Query}
 use Rattle.valve_log.specs.declared.reading.Reading.{Reading}
 use Rattle.strip.specs.Alike.{ending}
 use Rattle.strip.specs.Commission.{Home}

@@ -19,8 +19,9 @@ use Rattle.gamut.specs.Toe.{toe_inv as toe_inv_of}
 use Rattle.gamut.specs.declared.chroma.ChromaValues.{ChromaValues}
 use Rattle.gamut.specs.declared.direction.Direction.{Direction as Dir}
 use Rattle.gamut.specs.declared.oklab.Oklab.{Oklab}
-use Rattle.boundary.specs.Query.{Query, Gamut, query_by}
+use Rattle.boundary.specs.Query.{Gamut, map_query}
 use Rattle.boundary.specs.Rule.{admitted, untold}
+use Rattle.boundary.specs.declared.query.Query.{Query}
 use Rattle.oklab.specs.Okhsl.{oklab_steps, okhsl_in_range, oklab_with, settled_oklab, grey}
 use Rattle.oklab.specs.Steps.{Steps, ends, asks, then_step, run, and_then}
 use Rattle.oklab.specs.declared.okhsl.Okhsl.{Okhsl}
@@ -39,7 +40,7 @@ painted l x d = record { l = l; a = exact.mul x d.a; b = exact.mul x d.b }
 
 -- the query of lightness l in the direction d
 abbrev pub place : Rational → Dir Rational → Query Meaning
-place l d = query_by fraction l d.a d.b
+place l d = map_query fraction (record { lightness = l; hue = d })
 
 -- each number of d is lost or that of e
 abbrev pub Turned : Dir Meaning → Dir Rational → Type 0
@@ -76,7 +77,7 @@ module _ (o : Ops Meaning) (E : Exactness o) where
 
   module _ (g : Gamut) where
     abbrev asked : Okhsl Meaning → Query Meaning
-    asked h = record { lightness = toe_inv_of o h.lightness; a = h.hue.a; b = h.hue.b }
+    asked h = record { lightness = toe_inv_of o h.lightness; hue = h.hue }
 
     -- what follows the query
     answered-drawn : (h : Okhsl Meaning) (d : Dir Rational) (s l : Rational) (c : Oklab Meaning) → Turned h.hue d → OrLost h.saturation s → OrLost h.lightness l
@@ -98,7 +99,7 @@ module _ (o : Ops Meaning) (E : Exactness o) where
         = sure (told_at (ap (λ t. chroma o t h.saturation) is) (curve_told o E n.values h.saturation s n.accepted ps)) ma.0 in
         let ax = sure (told_at (ap₂ o.mul ex ea) (E.mul.value x d.a)) (alive o E u.1.0) in
         let bx = sure (told_at (ap₂ o.mul ex eb) (E.mul.value x d.b)) (alive o E u.1.1.0) in
-        let at : asked h ≡ place (toe_inv exact l) d = λ i. record { lightness = el i; a = ea i; b = eb i } in
+        let at : asked h ≡ place (toe_inv exact l) d = λ i. record { lightness = el i; hue = record { a = ea i; b = eb i } } in
         let seen : c' ≡ map_oklab fraction (painted (toe_inv exact l) x d) = λ i. record { l = el i; a = ax i; b = bx i } in
         record {
           values = n.values;
@@ -110,7 +111,7 @@ module _ (o : Ops Meaning) (E : Exactness o) where
         }
 
     abbrev query : Okhsl Meaning → Steps Meaning (Result (Oklab Meaning) NumberFault)
-    query h = asks (toe_inv_of o h.lightness) h.hue.a h.hue.b
+    query h = asks (asked h)
         (λ v. and_then (admitted o untold (toe_inv_of o h.lightness) v) (λ w. settled_oklab o untold (oklab_with o untold h (toe_inv_of o h.lightness) w)))
 
     -- the conversion of a colour that is neither white nor black

@@ -43,7 +43,7 @@ then_ok (Err z) f e = absurd (err_no_ok e)
 
 pub run_then : {X Y : Type 0} (g : Gamut) (f : X → Y) (s : Steps Meaning X) → run g (then_step f s) ≡ f (run g s)
 run_then g f (ends x) = refl
-run_then g f (asks l a b next) = refl
+run_then g f (asks q next) = refl
 
 pub turn_ok : {A : Type 0} (r : Result A NumberFault) {x : A} → in_turn r ≡ Ok x → r ≡ Ok x
 turn_ok (Ok y) e = ap Ok (ok_inj e)

@@ -6,7 +6,7 @@ use Rattle.gamut.specs.Maps.{map_oklab}
 use Rattle.gamut.specs.declared.oklab.Oklab.{Oklab}
 use Rattle.number.specs.Meaning.{Meaning}
 use Rattle.number.specs.Ops.{Ops, Hom}
-use Rattle.boundary.specs.Query.{Gamut, query_by}
+use Rattle.boundary.specs.Query.{Gamut, map_query}
 use Rattle.boundary.specs.Rule.{untold}
 use Rattle.oklab.specs.Steps.{run}
 use Rattle.valve_log.specs.declared.reading.Reading.{Reading}
@@ -41,9 +41,8 @@ module _ {N P : Type 0} {f : N → Meaning} {o : Ops N} {p : Ops Meaning} (h : H
       ∙ ap (λ is. let w : Row Indication = record { ends = ending d.end; entries = is } in w) (map-id (vec_items d.indications))))
   made-shown (Ask c) new m =
       let d = m.0 in
-      let q : query_by (λ x. f (back x)) d.lightness d.a d.b ≡ query_by (λ x. f (back x)) c.lightness c.a c.b = λ i. query_by (λ x. f (back x)) (m.2 i) (m.3 i) (m.4 i) in
       ap (shown f back) m.1
-      ∙ ap₂ queries q (ask_query-carried h traced plain back again c.lightness c.a c.b g d.answer m.5)
+      ∙ ap₂ queries (ap (map_query (λ x. f (back x))) m.2) (ask_query-carried h traced plain back again c.query g d.answer m.3)
   made-shown Forget new m = ap (shown f back) m
 
 -- The call at i is the last of the first i + 1.

@@ -7,7 +7,8 @@ use Rattle.number.specs.Ops.{Ops}
 use Rattle.gamut.specs.Curve.{three, chroma}
 use Rattle.gamut.specs.Maps.{map_values}
 use Rattle.gamut.specs.declared.chroma.ChromaValues.{ChromaValues}
-use Rattle.boundary.specs.Query.{Query, Gamut}
+use Rattle.boundary.specs.Query.{Gamut}
+use Rattle.boundary.specs.declared.query.Query.{Query}
 use Rattle.boundary.specs.Model.{answered}
 
 -- The three numbers v are fractions with 0 < zero and 0 < mid < max; and the chroma of a saturation that means s, where not lost, means

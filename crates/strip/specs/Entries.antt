@@ -7,7 +7,9 @@ use Rattle.gamut.specs.declared.oklab.Oklab.{Oklab}
 use Rattle.gamut.specs.Maps.{map_oklab, map_values}
 use Rattle.number.specs.Meaning.{Meaning}
 use Rattle.number.specs.Ops.{Ops}
+use Rattle.boundary.specs.Query.{map_query}
 use Rattle.boundary.specs.Rule.{admitted}
+use Rattle.boundary.specs.declared.query.Query.{Query}
 use Rattle.oklab.specs.Steps.{Steps, asks, then_step}
 use Rattle.valve_log.specs.declared.reading.Reading.{Reading}
 use Rattle.strip.specs.Strip.{draw_steps, read_steps}
@@ -32,5 +34,5 @@ module _ {N P : Type 0} (o : Ops N) (traced : N → Option (ℕ × ℕ)) where
   read_entry back c = read_steps o traced (map_oklab back c)
 
   -- The answer to a query.
-  abbrev pub ask_query : (N → P) → (P → N) → P → P → P → Steps N (Result (ChromaValues P) NumberFault)
-  ask_query plain back l a b = asks (back l) (back a) (back b) (λ v. in_plain (map_values plain) (admitted o traced (back l) v))
+  abbrev pub ask_query : (N → P) → (P → N) → Query P → Steps N (Result (ChromaValues P) NumberFault)
+  ask_query plain back q = asks (map_query back q) (λ v. in_plain (map_values plain) (admitted o traced (back q.lightness) v))

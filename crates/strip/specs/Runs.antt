@@ -6,8 +6,9 @@ use Rattle.gamut.specs.declared.oklab.Oklab.{Oklab}
 use Rattle.number.specs.Meaning.{Meaning}
 use Rattle.number.specs.Ops.{Ops}
 use Rattle.boundary.specs.Model.{answered}
-use Rattle.boundary.specs.Query.{Query, Gamut, query_by}
+use Rattle.boundary.specs.Query.{Gamut, map_query}
 use Rattle.boundary.specs.Rule.{meant, untold}
+use Rattle.boundary.specs.declared.query.Query.{Query}
 use Rattle.oklab.specs.Steps.{run, Follows}
 use Rattle.valve_log.specs.declared.reading.Reading.{Reading}
 use Rattle.strip.specs.Alike.{ending}
@@ -33,8 +34,7 @@ module _ {N P : Type 0} (means : N → Meaning) (o : Ops N) (traced : N → Opti
       (d : ReadCall P) × (new ≡ Read d) × (vec_items d.colors ≡ vec_items c.colors)
       × Fills (Answering means g (read_entry o traced back)) (vec_items c.colors) (vec_items c.indications) d.end (vec_items d.indications)
   Made (Ask c) new =
-      (d : AskCall P) × (new ≡ Ask d) × (d.lightness ≡ c.lightness) × (d.a ≡ c.a) × (d.b ≡ c.b)
-      × Follows means g (ask_query o traced plain back c.lightness c.a c.b) d.answer
+      (d : AskCall P) × (new ≡ Ask d) × (d.query ≡ c.query) × Follows means g (ask_query o traced plain back c.query) d.answer
   Made Forget new = new ≡ Forget
 
 -- The last of the calls is a forget.
@@ -57,7 +57,7 @@ module _ {N P : Type 0} (means : N → Meaning) (back : P → N) where
   abbrev pub shown : Call P → Shown
   shown (Draw c) = draws (vec_items c.readings) (record { ends = ending c.end; entries = map (seen means back) (vec_items c.colors) })
   shown (Read c) = reads (map (seen means back) (vec_items c.colors)) (record { ends = ending c.end; entries = vec_items c.indications })
-  shown (Ask c) = queries (query_by (λ p. means (back p)) c.lightness c.a c.b) (meant (map_values (λ p. means (back p))) c.answer)
+  shown (Ask c) = queries (map_query (λ p. means (back p)) c.query) (meant (map_values (λ p. means (back p))) c.answer)
   shown Forget = forgets
 
 module _ (o : Ops Meaning) (g : Gamut) where

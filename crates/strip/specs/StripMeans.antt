@@ -11,8 +11,9 @@ use Rattle.gamut.specs.Maps.{map_direction, map_oklab, map_values}
 use Rattle.number.specs.Meaning.{Meaning}
 use Rattle.number.specs.Ops.{Ops, Hom}
 use Rattle.boundary.specs.Model.{answered}
-use Rattle.boundary.specs.Query.{Gamut, query_by}
+use Rattle.boundary.specs.Query.{Gamut, map_query}
 use Rattle.boundary.specs.Rule.{meant, untold, admitted}
+use Rattle.boundary.specs.declared.query.Query.{Query}
 use Rattle.boundary.proofs.Rules.{admitted-carried}
 use Rattle.oklab.specs.declared.okhsl.Okhsl.{Okhsl}
 use Rattle.oklab.specs.Checks.{settled}
@@ -31,7 +32,7 @@ use Rattle.strip.specs.declared.indication.Indication.{Indication}
 -- An answer of the steps, taken further.
 pub follows_on : {N X Y : Type 0} (f : N → Meaning) (g : Gamut) (p : X → Y) (s : Steps N X) (x : X) → Follows f g s x → Follows f g (then_step p s) (p x)
 follows_on f g p (ends y) x h = ap p h
-follows_on f g p (asks l a b next) x h = (h.0, h.1, ap p h.2)
+follows_on f g p (asks q next) x h = (h.0, h.1, ap p h.2)
 
 module _ {N : Type 0} (f : N → Meaning) (g : Gamut) (o : Ops N) (traced : N → Option (ℕ × ℕ)) where
   -- A reading that passes its check is drawn by the conversion.
@@ -52,14 +53,12 @@ module _ {N : Type 0} (f : N → Meaning) (g : Gamut) (o : Ops N) (traced : N �
   unread c e h = follows_on f g (λ r. in_turn (and_then r (indication_of o traced))) (okhsl_steps o traced c) (Err e) h
 
   -- A query whose numbers lie in their plain form is asked by the numbers themselves.
-  pub asked_plain : {P : Type 0} (plain : N → P) (back : P → N) {l a b : P} {x y z : N} → x ≡ back l → y ≡ back a → z ≡ back b
-      → (r : Result (ChromaValues N) NumberFault) → Follows f g (asks x y z (admitted o traced x)) r
-      → Follows f g (ask_query o traced plain back l a b) (in_plain (map_values plain) r)
-  asked_plain plain back {l} {a} {b} {x} {y} ex ey ez r h =
-      subst (λ m. Follows f g (asks m (back a) (back b) (λ v. in_plain (map_values plain) (admitted o traced m v))) (in_plain (map_values plain) r)) ex
-      (subst (λ m. Follows f g (asks x m (back b) (λ v. in_plain (map_values plain) (admitted o traced x v))) (in_plain (map_values plain) r)) ey
-      (subst (λ m. Follows f g (asks x y m (λ v. in_plain (map_values plain) (admitted o traced x v))) (in_plain (map_values plain) r)) ez
-      (h.0, h.1, ap (in_plain (map_values plain)) h.2)))
+  pub asked_plain : {P : Type 0} (plain : N → P) (back : P → N) {q : Query P} {k : Query N} → k ≡ map_query back q
+      → (r : Result (ChromaValues N) NumberFault) → Follows f g (asks k (admitted o traced k.lightness)) r
+      → Follows f g (ask_query o traced plain back q) (in_plain (map_values plain) r)
+  asked_plain plain back e r h =
+      subst (λ m. Follows f g (asks m (λ v. in_plain (map_values plain) (admitted o traced m.lightness v))) (in_plain (map_values plain) r)) e
+      (h.0, h.1, ap (in_plain (map_values plain)) h.2)
 
 in_turn_means : {A B : Type 0} (k : A → B) (r : Result A NumberFault) → meant_turn k (in_turn r) ≡ in_turn (meant k r)
 in_turn_means k (Ok x) = refl
@@ -175,10 +174,10 @@ module _ {N : Type 0} {f : N → Meaning} {o : Ops N} {p : Ops Meaning} (h : Hom
       ask_means (Ok v) = λ i. Ok (record { zero = f (again v.zero i); mid = f (again v.mid i); max = f (again v.max i) })
       ask_means (Err e) = refl
 
-      pub ask_query-carried : (l a b : P) (g : Gamut) (r : Result (ChromaValues P) NumberFault) → Follows f g (ask_query o traced plain back l a b) r
-          → meant (map_values (λ x. f (back x))) r ≡ answered p g (query_by (λ x. f (back x)) l a b)
-      ask_query-carried l a b g r k =
+      pub ask_query-carried : (q : Query P) (g : Gamut) (r : Result (ChromaValues P) NumberFault) → Follows f g (ask_query o traced plain back q) r
+          → meant (map_values (λ x. f (back x))) r ≡ answered p g (map_query (λ x. f (back x)) q)
+      ask_query-carried q g r k =
           ap (meant (map_values (λ x. f (back x)))) k.2
-          ∙ ask_means (admitted o traced (back l) k.0)
-          ∙ admitted-carried h traced (back l) k.0
-          ∙ ap (admitted p untold (f (back l))) k.1
+          ∙ ask_means (admitted o traced (back q.lightness) k.0)
+          ∙ admitted-carried h traced (back q.lightness) k.0
+          ∙ ap (admitted p untold (f (back q.lightness))) k.1

@@ -6,7 +6,8 @@ use Rattle.number.specs.Exactness.{Exactness}
 use Rattle.number.specs.Meaning.{Meaning}
 use Rattle.number.specs.Ops.{Ops}
 use Rattle.gamut.specs.declared.oklab.Oklab.{Oklab}
-use Rattle.boundary.specs.Query.{Query, Gamut}
+use Rattle.boundary.specs.Query.{Gamut}
+use Rattle.boundary.specs.declared.query.Query.{Query}
 use Rattle.boundary.specs.Rule.{untold}
 use Rattle.oklab.specs.Steps.{run}
 use Rattle.valve_log.specs.declared.reading.Reading.{Reading}

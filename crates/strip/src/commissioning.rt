@@ -2,7 +2,7 @@
 ghost use Rattle.std.specs.Prelude.{◌≡◌};
 ghost use Rattle.number.specs.Meaning.{Meaning};
 ghost use Rattle.boundary.specs.Model.{Stays};
-ghost use Rattle.boundary.specs.Query.{Query};
+ghost use Rattle.boundary.specs.declared.query.Query.{Query};
 ghost use Rattle.strip.specs.Commission.{DrawnAndRead, Home};
 ghost use Rattle.strip.specs.Entries.{draw_entry, read_entry};
 ghost use Rattle.strip.specs.Fills.{Answering};
@@ -28,10 +28,10 @@ pub fn commission<N: Exact, B: Boundary<N>, C: Boundary<N>>(
     colors: &mut [Oklab<N::Plain>],
     indications: &mut [Indication],
 ) -> Result<(), RowFault>
-    ensures value { B.Boundary.right panel.old → C.Boundary.right page.old → DrawnAndRead (Answering N.Number.means (B.Boundary.meaning panel.old) (draw_entry N.Number.ops N.Number.traced N.Number.plain)) (Answering N.Number.means (C.Boundary.meaning page.old) (read_entry N.Number.ops N.Number.traced N.Number.back)) readings.now colors.old colors.new indications.old result indications.new }
-    ensures home { B.Boundary.right panel.old → C.Boundary.right page.old → ((q : Query Meaning) → B.Boundary.meaning panel.old q ≡ C.Boundary.meaning page.old q) → Home readings.now result indications.new }
-    ensures panel { Stays B.Boundary.right B.Boundary.meaning B.Boundary.model panel.old panel.new }
-    ensures page { Stays C.Boundary.right C.Boundary.meaning C.Boundary.model page.old page.new }
+    ensures value { DrawnAndRead (Answering N.Number.means (B.Boundary.meaning panel.old) (draw_entry N.Number.ops N.Number.traced N.Number.plain)) (Answering N.Number.means (C.Boundary.meaning page.old) (read_entry N.Number.ops N.Number.traced N.Number.back)) readings.now colors.old colors.new indications.old result indications.new }
+    ensures home { ((q : Query Meaning) → B.Boundary.meaning panel.old q ≡ C.Boundary.meaning page.old q) → Home readings.now result indications.new }
+    ensures panel { Stays B.Boundary.meaning B.Boundary.model panel.old panel.new }
+    ensures page { Stays C.Boundary.meaning C.Boundary.model page.old page.new }
 {
     // what an exact kind promises: without it no colour need come home
     rows_come_home::<N>();

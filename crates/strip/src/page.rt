@@ -119,9 +119,9 @@ pub fn read<N: Number, B: Boundary<N>>(
     boundary: &mut B,
     color: Oklab<N>,
 ) -> Result<Indication, TurnFault>
-    ensures value { B.right boundary.old → Follows N.means (B.meaning boundary.old) (read_steps N.ops N.traced color) result }
-    ensures meaning { B.right boundary.old → meant_turn (λ i. i) result ≡ run (B.meaning boundary.old) (read_steps N.arith untold (map_oklab N.means color)) }
-    ensures stays { Stays B.right B.meaning B.model boundary.old boundary.new }
+    ensures value { Follows N.means (B.meaning boundary.old) (read_steps N.ops N.traced color) result }
+    ensures meaning { meant_turn (λ i. i) result ≡ run (B.meaning boundary.old) (read_steps N.arith untold (map_oklab N.means color)) }
+    ensures stays { Stays B.meaning B.model boundary.old boundary.new }
 {
     let shade = oklab_to_okhsl(color, boundary)?;
     let shown = indication(shade)?;
@@ -167,10 +167,10 @@ pub fn read_row<N: Number, B: Boundary<N>>(
     colors: &[Oklab<N::Plain>],
     indications: &mut [Indication],
 ) -> Result<(), RowFault>
-    ensures value { B.right boundary.old → Fills (Answering N.means (B.meaning boundary.old) (read_entry N.ops N.traced N.back)) colors.now indications.old result indications.new }
-    ensures meaning { B.right boundary.old → row (λ c. run (B.meaning boundary.old) (read_steps N.arith untold c)) (map (seen N.means N.back) colors.now) indications.old ≡ record { ends = ending result; entries = indications.new } }
+    ensures value { Fills (Answering N.means (B.meaning boundary.old) (read_entry N.ops N.traced N.back)) colors.now indications.old result indications.new }
+    ensures meaning { row (λ c. run (B.meaning boundary.old) (read_steps N.arith untold c)) (map (seen N.means N.back) colors.now) indications.old ≡ record { ends = ending result; entries = indications.new } }
     ensures untouched { Untouched result indications.old indications.new }
-    ensures stays { Stays B.right B.meaning B.model boundary.old boundary.new }
+    ensures stays { Stays B.meaning B.model boundary.old boundary.new }
 {
     fill::<N, B, Page>(boundary, colors, indications)
 }

@@ -40,9 +40,9 @@ pub fn draw<N: Number, B: Boundary<N>>(
     boundary: &mut B,
     reading: Reading,
 ) -> Result<Oklab<N>, TurnFault>
-    ensures value { B.right boundary.old → Follows N.means (B.meaning boundary.old) (draw_steps N.ops N.traced reading) result }
-    ensures meaning { B.right boundary.old → meant_turn (map_oklab N.means) result ≡ run (B.meaning boundary.old) (draw_steps N.arith untold reading) }
-    ensures stays { Stays B.right B.meaning B.model boundary.old boundary.new }
+    ensures value { Follows N.means (B.meaning boundary.old) (draw_steps N.ops N.traced reading) result }
+    ensures meaning { meant_turn (map_oklab N.means) result ≡ run (B.meaning boundary.old) (draw_steps N.arith untold reading) }
+    ensures stays { Stays B.meaning B.model boundary.old boundary.new }
 {
     reading.check()?;
     let color = okhsl_to_oklab(shade(reading), boundary)?;
@@ -88,10 +88,10 @@ pub fn draw_row<N: Number, B: Boundary<N>>(
     readings: &[Reading],
     colors: &mut [Oklab<N::Plain>],
 ) -> Result<(), RowFault>
-    ensures value { B.right boundary.old → Fills (Answering N.means (B.meaning boundary.old) (draw_entry N.ops N.traced N.plain)) readings.now colors.old result colors.new }
-    ensures meaning { B.right boundary.old → row (λ x. run (B.meaning boundary.old) (draw_steps N.arith untold x)) readings.now (map (seen N.means N.back) colors.old) ≡ record { ends = ending result; entries = map (seen N.means N.back) colors.new } }
+    ensures value { Fills (Answering N.means (B.meaning boundary.old) (draw_entry N.ops N.traced N.plain)) readings.now colors.old result colors.new }
+    ensures meaning { row (λ x. run (B.meaning boundary.old) (draw_steps N.arith untold x)) readings.now (map (seen N.means N.back) colors.old) ≡ record { ends = ending result; entries = map (seen N.means N.back) colors.new } }
     ensures untouched { Untouched result colors.old colors.new }
-    ensures stays { Stays B.right B.meaning B.model boundary.old boundary.new }
+    ensures stays { Stays B.meaning B.model boundary.old boundary.new }
 {
     fill::<N, B, Panel>(boundary, readings, colors)
 }

@@ -35,8 +35,8 @@ pub trait Turn<N: Number> {
     ghost plainly: { Read → Steps Meaning (ResultOf Wrote TurnFaultOf) };
 
     fn turn<B: Boundary<N>>(boundary: &mut B, x: Self::From) -> Result<Self::To, TurnFault>
-        ensures value { B.right boundary.old → Follows N.means (B.meaning boundary.old) (steps x) result }
-        ensures stays { Stays B.right B.meaning B.model boundary.old boundary.new };
+        ensures value { Follows N.means (B.meaning boundary.old) (steps x) result }
+        ensures stays { Stays B.meaning B.model boundary.old boundary.new };
 
     ghost carried: { (g : Gamut) (x : Self.From) (a : ResultOf Self.To TurnFaultOf) → Follows N.means g (steps x) a → meant_turn writes a ≡ run g (plainly (reads x)) };
 }
@@ -63,10 +63,10 @@ pub fn fill<N: Number, B: Boundary<N>, T: Turn<N>>(
     from: &[T::From],
     to: &mut [T::To],
 ) -> Result<(), RowFault>
-    ensures value { B.right boundary.old → Fills (Answering N.means (B.meaning boundary.old) T.steps) from.now to.old result to.new }
-    ensures meaning { B.right boundary.old → row (λ x. run (B.meaning boundary.old) (T.plainly x)) (map T.reads from.now) (map T.writes to.old) ≡ record { ends = ending result; entries = map T.writes to.new } }
+    ensures value { Fills (Answering N.means (B.meaning boundary.old) T.steps) from.now to.old result to.new }
+    ensures meaning { row (λ x. run (B.meaning boundary.old) (T.plainly x)) (map T.reads from.now) (map T.writes to.old) ≡ record { ends = ending result; entries = map T.writes to.new } }
     ensures untouched { Untouched result to.old to.new }
-    ensures stays { Stays B.right B.meaning B.model boundary.old boundary.new }
+    ensures stays { Stays B.meaning B.model boundary.old boundary.new }
 {
     if from.len() != to.len() {
         return Err(RowFault::Length);

@@ -2,7 +2,7 @@
 ghost use Rattle.std.specs.Prelude.{◌≡◌};
 ghost use Rattle.number.specs.Meaning.{Meaning};
 ghost use Rattle.boundary.specs.Model.{Stays, modelled, answered};
-ghost use Rattle.boundary.specs.Query.{Query};
+ghost use Rattle.boundary.specs.declared.query.Query.{Query as QueryOf};
 ghost use Rattle.oklab.specs.Steps.{Follows};
 ghost use Rattle.strip.specs.Entries.{ask_query};
 ghost use Rattle.strip.specs.Fills.{Each};
@@ -12,7 +12,7 @@ ghost use Rattle.strip.specs.declared.run.Call.TheVariants.{Forget as ForgetCall
 use crate::indication::Indication;
 use crate::page::read_row;
 use crate::panel::draw_row;
-use boundary::Boundary;
+use boundary::{Boundary, Query};
 use fault::{NumberFault, RowFault};
 use gamut::chroma::ChromaValues;
 use gamut::oklab::Oklab;
@@ -38,9 +38,7 @@ pub struct ReadCall<P> {
 /// A query to ask, with its answer.
 #[derive(Drop)]
 pub struct AskCall<P> {
-    pub lightness: P,
-    pub a: P,
-    pub b: P,
+    pub query: Query<P>,
     pub answer: Result<ChromaValues<P>, NumberFault>,
 }
 
@@ -60,26 +58,20 @@ pub enum Call<P> {
 // Asks a query whose numbers, as those of its answer, lie in their plain form.
 fn ask<N: Number, B: Boundary<N>>(
     boundary: &mut B,
-    lightness: N::Plain,
-    a: N::Plain,
-    b: N::Plain,
+    query: Query<N::Plain>,
 ) -> Result<ChromaValues<N::Plain>, NumberFault>
-    ensures value { B.right boundary.old → Follows N.means (B.meaning boundary.old) (ask_query N.ops N.traced N.plain N.back lightness a b) result }
-    ensures stays { Stays B.right B.meaning B.model boundary.old boundary.new }
+    ensures value { Follows N.means (B.meaning boundary.old) (ask_query N.ops N.traced N.plain N.back query) result }
+    ensures stays { Stays B.meaning B.model boundary.old boundary.new }
 {
-    let v = boundary.query(N::from_plain(lightness), N::from_plain(a), N::from_plain(b))?;
-    Ok(ChromaValues {
-        zero: v.zero.to_plain(),
-        mid: v.mid.to_plain(),
-        max: v.max.to_plain(),
-    })
+    let v = boundary.query(&Query::from_plain(query))?;
+    Ok(v.to_plain())
 }
 
 // Makes one call.
 fn make<N: Number, B: Boundary<N>>(boundary: &mut B, call: &mut Call<N::Plain>)
-    ensures value { B.right boundary.old → Made N.means N.ops N.traced N.plain N.back (B.meaning boundary.old) call.old call.new }
-    ensures emptied { B.right boundary.old → call.old ≡ ForgetCall → B.fresh boundary.new }
-    ensures stays { Stays B.right B.meaning B.model boundary.old boundary.new }
+    ensures value { Made N.means N.ops N.traced N.plain N.back (B.meaning boundary.old) call.old call.new }
+    ensures emptied { call.old ≡ ForgetCall → B.fresh boundary.new }
+    ensures stays { Stays B.meaning B.model boundary.old boundary.new }
 {
     match call {
         Call::Draw(c) => {
@@ -89,7 +81,7 @@ fn make<N: Number, B: Boundary<N>>(boundary: &mut B, call: &mut Call<N::Plain>)
             c.end = read_row(boundary, c.colors.as_slice(), c.indications.as_mut_slice());
         }
         Call::Ask(c) => {
-            c.answer = ask(boundary, c.lightness, c.a, c.b);
+            c.answer = ask(boundary, c.query);
         }
         Call::Forget => boundary.forget(),
     }
@@ -101,12 +93,11 @@ fn make<N: Number, B: Boundary<N>>(boundary: &mut B, call: &mut Call<N::Plain>)
 /// the base's meaning and the factors for good; a query among the calls, and every query afterwards, is answered or
 /// refused as by the model. After a last forget the memos are empty.
 pub fn replay<N: Number, B: Boundary<N>>(boundary: &mut B, calls: &mut [Call<N::Plain>])
-    ensures value { B.right boundary.old → Each (Made N.means N.ops N.traced N.plain N.back (B.meaning boundary.old)) calls.old calls.new }
-    ensures alike { B.right boundary.old → AsModelled N.means N.back N.arith (modelled N.arith (B.model boundary.old)) calls.old calls.new }
-    ensures afresh { B.fresh boundary.old → AsModelled N.means N.back N.arith (modelled N.arith (B.model boundary.old)) calls.old calls.new }
-    ensures emptied { B.right boundary.old → EndsForgetting calls.old → B.fresh boundary.new }
-    ensures queries { (q : Query Meaning) → answered N.arith (B.meaning boundary.new) q ≡ answered N.arith (modelled N.arith (B.model boundary.old)) q }
-    ensures stays { Stays B.right B.meaning B.model boundary.old boundary.new }
+    ensures value { Each (Made N.means N.ops N.traced N.plain N.back (B.meaning boundary.old)) calls.old calls.new }
+    ensures alike { AsModelled N.means N.back N.arith (modelled N.arith (B.model boundary.old)) calls.old calls.new }
+    ensures emptied { EndsForgetting calls.old → B.fresh boundary.new }
+    ensures queries { (q : QueryOf Meaning) → answered N.arith (B.meaning boundary.new) q ≡ answered N.arith (modelled N.arith (B.model boundary.old)) q }
+    ensures stays { Stays B.meaning B.model boundary.old boundary.new }
 {
     for i in 0..calls.len() {
         make(boundary, &mut calls[i]);

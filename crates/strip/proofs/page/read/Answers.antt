@@ -10,11 +10,11 @@ returns-in_err-shade g c =
     let n = g.N.Number in
     let m = g.B.Boundary.meaning c.args.boundary.now in
     let p = err_from_is_err_and c.from_residual.result c.from_residual.ensures.1 in
-    let value : g.B.Boundary.right c.args.boundary.now → Follows n.means m (read_steps n.ops n.traced c.args.color) c.from_residual.result =
-    λ h. rw (p.1, p.2) (unread n.means m n.ops n.traced c.args.color c.in_err-shade.field-0.0 (c.in_err-shade.ensures.value h)) in
+    let value : Follows n.means m (read_steps n.ops n.traced c.args.color) c.from_residual.result =
+    rw (p.1, p.2) (unread n.means m n.ops n.traced c.args.color c.in_err-shade.field-0.0 c.in_err-shade.ensures.value) in
     record {
       value = value;
-      meaning = λ h. (read_steps-carried g.met.N.Number.hom n.traced c.args.color).carries m c.from_residual.result (value h);
+      meaning = (read_steps-carried g.met.N.Number.hom n.traced c.args.color).carries m c.from_residual.result value;
       stays = c.oklab_to_okhsl.ensures.stays;
     }
 
@@ -23,12 +23,12 @@ returns-in_err-shown g c =
     let n = g.N.Number in
     let m = g.B.Boundary.meaning c.args.boundary.now in
     let p = err_from_is_err_and c.from_residual-in_err-shown.result c.from_residual-in_err-shown.ensures.1 in
-    let value : g.B.Boundary.right c.args.boundary.now → Follows n.means m (read_steps n.ops n.traced c.args.color) c.from_residual-in_err-shown.result =
-    λ h. rw (p.1, p.2)
-    (read_off n.means m n.ops n.traced c.args.color c.in_ok-shade.shade (Err c.in_err-shown.field-0.0) c.in_err-shown.ensures (c.in_ok-shade.ensures.value h)) in
+    let value : Follows n.means m (read_steps n.ops n.traced c.args.color) c.from_residual-in_err-shown.result =
+    rw (p.1, p.2)
+    (read_off n.means m n.ops n.traced c.args.color c.in_ok-shade.shade (Err c.in_err-shown.field-0.0) c.in_err-shown.ensures c.in_ok-shade.ensures.value) in
     record {
       value = value;
-      meaning = λ h. (read_steps-carried g.met.N.Number.hom n.traced c.args.color).carries m c.from_residual-in_err-shown.result (value h);
+      meaning = (read_steps-carried g.met.N.Number.hom n.traced c.args.color).carries m c.from_residual-in_err-shown.result value;
       stays = c.oklab_to_okhsl.ensures.stays;
     }
 
@@ -37,10 +37,10 @@ returns g c =
     let n = g.N.Number in
     let m = g.B.Boundary.meaning c.args.boundary.now in
     let shown = c.in_ok-shown.shown in
-    let value : g.B.Boundary.right c.args.boundary.now → Follows n.means m (read_steps n.ops n.traced c.args.color) (Ok shown) =
-    λ h. read_off n.means m n.ops n.traced c.args.color c.in_ok-shade.shade (Ok shown) c.in_ok-shown.ensures (c.in_ok-shade.ensures.value h) in
+    let value : Follows n.means m (read_steps n.ops n.traced c.args.color) (Ok shown) =
+    read_off n.means m n.ops n.traced c.args.color c.in_ok-shade.shade (Ok shown) c.in_ok-shown.ensures c.in_ok-shade.ensures.value in
     record {
       value = value;
-      meaning = λ h. (read_steps-carried g.met.N.Number.hom n.traced c.args.color).carries m (Ok shown) (value h);
+      meaning = (read_steps-carried g.met.N.Number.hom n.traced c.args.color).carries m (Ok shown) value;
       stays = c.oklab_to_okhsl.ensures.stays;
     }

@@ -16,9 +16,9 @@ returns g c =
     let colors = map (seen n.means n.back) c.args.colors.now in
     record {
       value = c.fill.ensures.value;
-      meaning = λ h.
+      meaning =
           ap (row (λ x. run m (read_steps n.arith untold x)) colors) (sym (map-id c.args.indications.now))
-          ∙ c.fill.ensures.meaning h
+          ∙ c.fill.ensures.meaning
           ∙ ap (λ is. let w : Row Indication = record { ends = ending c.fill.result; entries = is } in w) (map-id c.fill.new.to);
       untouched = c.fill.ensures.untouched;
       stays = c.fill.ensures.stays;

@@ -11,12 +11,12 @@ returns-in_err-color g c =
     let m = g.B.Boundary.meaning c.args.boundary.now in
     let r = c.from_residual-in_err-color.result in
     let p = err_from_is_err_and r c.from_residual-in_err-color.ensures.1 in
-    let value : g.B.Boundary.right c.args.boundary.now → Follows n.means m (draw_steps n.ops n.traced c.args.reading) r =
-    λ h. rw (p.1, p.2)
-    (drawn n.means m n.ops n.traced c.args.reading c.shade.result (Err c.in_err-color.field-0.0) (sym c.in_ok-check.ensures) c.shade.ensures (c.in_err-color.ensures.value h)) in
+    let value : Follows n.means m (draw_steps n.ops n.traced c.args.reading) r =
+    rw (p.1, p.2)
+    (drawn n.means m n.ops n.traced c.args.reading c.shade.result (Err c.in_err-color.field-0.0) (sym c.in_ok-check.ensures) c.shade.ensures c.in_err-color.ensures.value) in
     record {
       value = value;
-      meaning = λ h. (draw_steps-carried g.met.N.Number.hom n.traced c.args.reading).carries m r (value h);
+      meaning = (draw_steps-carried g.met.N.Number.hom n.traced c.args.reading).carries m r value;
       stays = c.okhsl_to_oklab.ensures.stays;
     }
 
@@ -25,10 +25,10 @@ returns g c =
     let n = g.N.Number in
     let m = g.B.Boundary.meaning c.args.boundary.now in
     let color = c.in_ok-color.color in
-    let value : g.B.Boundary.right c.args.boundary.now → Follows n.means m (draw_steps n.ops n.traced c.args.reading) (Ok color) =
-    λ h. drawn n.means m n.ops n.traced c.args.reading c.shade.result (Ok color) (sym c.in_ok-check.ensures) c.shade.ensures (c.in_ok-color.ensures.value h) in
+    let value : Follows n.means m (draw_steps n.ops n.traced c.args.reading) (Ok color) =
+    drawn n.means m n.ops n.traced c.args.reading c.shade.result (Ok color) (sym c.in_ok-check.ensures) c.shade.ensures c.in_ok-color.ensures.value in
     record {
       value = value;
-      meaning = λ h. (draw_steps-carried g.met.N.Number.hom n.traced c.args.reading).carries m (Ok color) (value h);
+      meaning = (draw_steps-carried g.met.N.Number.hom n.traced c.args.reading).carries m (Ok color) value;
       stays = c.okhsl_to_oklab.ensures.stays;
     }

@@ -14,7 +14,7 @@ returns g c =
     let colors = map (seen n.means n.back) c.args.colors.now in
     record {
       value = c.fill.ensures.value;
-      meaning = λ h. ap (λ rs. row (λ x. run m (draw_steps n.arith untold x)) rs colors) (sym (map-id c.args.readings.now)) ∙ c.fill.ensures.meaning h;
+      meaning = ap (λ rs. row (λ x. run m (draw_steps n.arith untold x)) rs colors) (sym (map-id c.args.readings.now)) ∙ c.fill.ensures.meaning;
       untouched = c.fill.ensures.untouched;
       stays = c.fill.ensures.stays;
     }

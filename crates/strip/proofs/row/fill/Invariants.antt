@@ -9,5 +9,5 @@ invariant-loop-i g l =
     let b = g.B.Boundary in
     (length l.from ≡ length l.to)
     × (drop l.i l.to ≡ drop l.i l.initial.to)
-    × Stays b.right b.meaning b.model l.initial.boundary l.boundary
-    × (b.right l.initial.boundary → Written (Answering g.N.Number.means (b.meaning l.initial.boundary) g.T.Turn.steps) (take l.i l.from) (take l.i l.to))
+    × Stays b.meaning b.model l.initial.boundary l.boundary
+    × (Written (Answering g.N.Number.means (b.meaning l.initial.boundary) g.T.Turn.steps) (take l.i l.from) (take l.i l.to))

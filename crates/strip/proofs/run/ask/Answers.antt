@@ -12,9 +12,9 @@ returns-in_err-v g c =
     let m = g.B.Boundary.meaning c.args.boundary.now in
     let p = err_from_is_err_and c.from_residual.result c.from_residual.ensures.1 in
     record {
-      value = λ h.
-          subst (Follows n.means m (ask_query n.ops n.traced n.plain n.back c.args.lightness c.args.a c.args.b)) (sym (p.1 ∙ ap (λ (f : NumberFault). Err f) p.2))
-          (asked_plain n.means m n.ops n.traced n.plain n.back c.from_plain.ensures c.from_plain-2.ensures c.from_plain-3.ensures (Err c.in_err-v.field-0.0) (c.in_err-v.ensures.gives h));
+      value =
+          subst (Follows n.means m (ask_query n.ops n.traced n.plain n.back c.args.query)) (sym (p.1 ∙ ap (λ (f : NumberFault). Err f) p.2))
+          (asked_plain n.means m n.ops n.traced n.plain n.back c.from_plain.ensures (Err c.in_err-v.field-0.0) c.in_err-v.ensures.gives);
       stays = c.query.ensures.stays;
     }
 
@@ -23,8 +23,8 @@ returns g c =
     let n = g.N.Number in
     let m = g.B.Boundary.meaning c.args.boundary.now in
     record {
-      value = λ h.
-          rw (c.to_plain.ensures, c.to_plain-2.ensures, c.to_plain-3.ensures)
-          (asked_plain n.means m n.ops n.traced n.plain n.back c.from_plain.ensures c.from_plain-2.ensures c.from_plain-3.ensures (Ok c.in_ok-v.v) (c.in_ok-v.ensures.gives h));
+      value =
+          rw c.to_plain.ensures
+          (asked_plain n.means m n.ops n.traced n.plain n.back c.from_plain.ensures (Ok c.in_ok-v.v) c.in_ok-v.ensures.gives);
       stays = c.query.ensures.stays;
     }

@@ -22,12 +22,12 @@ loop-i-preserved g c =
       c.loop-i.invariant.0 ∙ sym (length-set c.loop-i.calls i last),
       drop-set-lt (i + 1) c.loop-i.calls i last (omega arith) ∙ drop_next i c.loop-i.calls c.args.calls.now c.loop-i.invariant.1,
       stays_on s c.make.ensures.stays,
-      (λ h.
+      (
           let left : made x last =
           subst (λ m. Made n.means n.ops n.traced n.plain n.back m x last) s.same_meaning
-          (subst (λ y. Made n.means n.ops n.traced n.plain n.back (b.meaning c.loop-i.boundary) y last) (sym c.index-calls-i.is) (c.make.ensures.value (s.stays_right h))) in
-          each_more made i c.args.calls.now c.loop-i.calls x last c.loop-i-test.true c.loop-i.invariant.0 found left (c.loop-i.invariant.3 h)),
-      (λ h f. c.make.ensures.emptied (s.stays_right h) (sym c.index-calls-i.is ∙ last_forgets i c.args.calls.now x c.loop-i-test.true found f)),
+          (subst (λ y. Made n.means n.ops n.traced n.plain n.back (b.meaning c.loop-i.boundary) y last) (sym c.index-calls-i.is) c.make.ensures.value) in
+          each_more made i c.args.calls.now c.loop-i.calls x last c.loop-i-test.true c.loop-i.invariant.0 found left c.loop-i.invariant.3),
+      (λ f. c.make.ensures.emptied (sym c.index-calls-i.is ∙ last_forgets i c.args.calls.now x c.loop-i-test.true found f)),
     )
 
 pub returns : goal.returns
@@ -37,17 +37,16 @@ returns g c =
     let m = b.meaning c.args.boundary.now in
     let made = Made n.means n.ops n.traced n.plain n.back m in
     let model : m ≡ modelled n.arith (b.model c.args.boundary.now) = fun_ext (λ q. g.met.B.Boundary.as_modelled c.args.boundary.now q) in
-    let each : b.right c.args.boundary.now → Each made c.args.calls.now c.loop-i.calls =
-    λ h. each_all made c.loop-i.i c.args.calls.now c.loop-i.calls (omega arith) c.loop-i.invariant.0 (c.loop-i.invariant.3 h) in
-    let alike : b.right c.args.boundary.now → AsModelled n.means n.back n.arith (modelled n.arith (b.model c.args.boundary.now)) c.args.calls.now c.loop-i.calls =
-    λ h. subst (λ k. AsModelled n.means n.back n.arith k c.args.calls.now c.loop-i.calls) model
+    let each : Each made c.args.calls.now c.loop-i.calls =
+    each_all made c.loop-i.i c.args.calls.now c.loop-i.calls (omega arith) c.loop-i.invariant.0 c.loop-i.invariant.3 in
+    let alike : AsModelled n.means n.back n.arith (modelled n.arith (b.model c.args.boundary.now)) c.args.calls.now c.loop-i.calls =
+    subst (λ k. AsModelled n.means n.back n.arith k c.args.calls.now c.loop-i.calls) model
     (each_map made (shown n.means n.back) (plainly n.arith m)
-    (made-shown g.met.N.Number.hom n.traced n.plain n.back g.met.N.Number.again m) c.args.calls.now c.loop-i.calls (each h)) in
+    (made-shown g.met.N.Number.hom n.traced n.plain n.back g.met.N.Number.again m) c.args.calls.now c.loop-i.calls each) in
     record {
       value = each;
       alike = alike;
-      afresh = λ h. alike (g.met.B.Boundary.sound c.args.boundary.now h);
-      emptied = λ h f. c.loop-i.invariant.4 h (subst EndsForgetting (sym (take_all c.loop-i.i c.args.calls.now (omega arith))) f);
+      emptied = λ f. c.loop-i.invariant.4 (subst EndsForgetting (sym (take_all c.loop-i.i c.args.calls.now (omega arith))) f);
       queries = λ q. ap (λ k. answered n.arith k q) (c.loop-i.invariant.2.same_meaning ∙ model);
       stays = c.loop-i.invariant.2;
     }

@@ -11,6 +11,6 @@ invariant-loop-i g l =
     let b = g.B.Boundary in
     (length l.initial.calls ≡ length l.calls)
     × (drop l.i l.calls ≡ drop l.i l.initial.calls)
-    × Stays b.right b.meaning b.model l.initial.boundary l.boundary
-    × (b.right l.initial.boundary → Each (Made n.means n.ops n.traced n.plain n.back (b.meaning l.initial.boundary)) (take l.i l.initial.calls) (take l.i l.calls))
-    × (b.right l.initial.boundary → EndsForgetting (take l.i l.initial.calls) → b.fresh l.boundary)
+    × Stays b.meaning b.model l.initial.boundary l.boundary
+    × (Each (Made n.means n.ops n.traced n.plain n.back (b.meaning l.initial.boundary)) (take l.i l.initial.calls) (take l.i l.calls))
+    × (EndsForgetting (take l.i l.initial.calls) → b.fresh l.boundary)

@@ -12,7 +12,7 @@ returns-in_err-color g c =
     let m = g.B.Boundary.meaning c.args.boundary.now in
     let p = err_from_is_err_and c.from_residual.result c.from_residual.ensures.1 in
     record {
-      value = λ h. rw (p.1, p.2) (follows_on n.means m (in_plain (map_oklab n.plain)) (draw_steps n.ops n.traced c.args.x) (Err c.in_err-color.field-0.0) (c.in_err-color.ensures.value h));
+      value = rw (p.1, p.2) (follows_on n.means m (in_plain (map_oklab n.plain)) (draw_steps n.ops n.traced c.args.x) (Err c.in_err-color.field-0.0) c.in_err-color.ensures.value);
       stays = c.draw.ensures.stays;
     }
 
@@ -21,7 +21,7 @@ returns g c =
     let n = g.N.Number in
     let m = g.B.Boundary.meaning c.args.boundary.now in
     record {
-      value = λ h. rw (c.to_plain.ensures, c.to_plain-2.ensures, c.to_plain-3.ensures)
-          (follows_on n.means m (in_plain (map_oklab n.plain)) (draw_steps n.ops n.traced c.args.x) (Ok c.in_ok-color.color) (c.in_ok-color.ensures.value h));
+      value = rw (c.to_plain.ensures, c.to_plain-2.ensures, c.to_plain-3.ensures)
+          (follows_on n.means m (in_plain (map_oklab n.plain)) (draw_steps n.ops n.traced c.args.x) (Ok c.in_ok-color.color) c.in_ok-color.ensures.value);
       stays = c.draw.ensures.stays;
     }
