@@ -14,16 +14,18 @@ ghost use Rattle.strip.specs.Rows.{row};
 ghost use Rattle.strip.specs.Strip.{ranged, indicated, along as along_of, opening_of, temperature_of, largest as largest_of, indication_of, read_steps};
 ghost use Rattle.strip.specs.declared.indication.Indication.{Indication as IndicationOf};
 ghost use Rattle.strip.specs.StripMeans.{read_steps-carried};
+ghost use Rattle.valve_log.specs.Valves.{valve_number};
 
 use crate::indication::Indication;
 use crate::row::{Turn, fill};
-use crate::valve::{expansion, four_way, mixing};
+use crate::valve::direction_of;
 use boundary::Boundary;
 use fault::{NumberFault, RowFault, TurnFault};
 use gamut::direction::Direction;
 use gamut::oklab::Oklab;
 use number::Number;
 use oklab::{Okhsl, oklab_to_okhsl, unspoiled};
+use valve_log::Valve;
 
 // a × a' + b × b'
 fn along<N: Number>(d: Direction<N>, e: Direction<N>) -> N
@@ -33,15 +35,19 @@ fn along<N: Number>(d: Direction<N>, e: Direction<N>) -> N
 }
 
 // The valve with the largest of the three products, the lowest if equal.
-fn largest<N: Number>(first: N, second: N, third: N) -> u8
-    ensures { result ≡ largest_of N.ops first second third }
+fn largest<N: Number>(first: N, second: N, third: N) -> Valve
+    ensures { valve_number result ≡ largest_of N.ops first second third }
 {
     if first.lt(second) {
-        if second.lt(third) { 3 } else { 2 }
+        if second.lt(third) {
+            Valve::Mixing
+        } else {
+            Valve::FourWay
+        }
     } else if first.lt(third) {
-        3
+        Valve::Mixing
     } else {
-        1
+        Valve::Expansion
     }
 }
 
@@ -49,30 +55,22 @@ fn largest<N: Number>(first: N, second: N, third: N) -> u8
 fn in_range(limit: u16, n: Option<i32>) -> Option<u16>
     ensures { result ≡ ranged limit n }
 {
-    match n {
-        Some(k) => {
-            if k >= 0 && k <= limit as i32 {
-                Some(k as u16)
-            } else {
-                None
-            }
-        }
-        None => None,
-    }
+    n.and_then(|k| u16::try_from(k).ok())
+        .filter(|k| *k <= limit)
 }
 
 // The indication of a valve with the nearest whole numbers to its opening and temperature.
 fn indicate(
-    valve: u8,
+    valve: Valve,
     opening: Option<i32>,
     temperature: Option<i32>,
 ) -> Result<Indication, NumberFault>
-    ensures { result ≡ indicated valve (ranged 1000 opening) (ranged 100 temperature) }
+    ensures { result ≡ indicated (valve_number valve) (ranged 1000 opening) (ranged 100 temperature) }
 {
     let opening = in_range(1000, opening).ok_or(NumberFault::Range)?;
     let temperature = in_range(100, temperature).ok_or(NumberFault::Range)?;
     Ok(Indication {
-        valve: if opening == 0 { 0 } else { valve },
+        valve: if opening == 0 { 0 } else { valve.into() },
         temperature: temperature as u8,
         opening,
     })
@@ -98,9 +96,9 @@ fn indication<N: Number>(color: Okhsl<N>) -> Result<Indication, NumberFault>
 {
     let opening = opening_of(color);
     let temperature = temperature_of(color);
-    let first = along(color.hue, expansion());
-    let second = along(color.hue, four_way());
-    let third = along(color.hue, mixing());
+    let first = along(color.hue, direction_of(Valve::Expansion));
+    let second = along(color.hue, direction_of(Valve::FourWay));
+    let third = along(color.hue, direction_of(Valve::Mixing));
     unspoiled(opening)?;
     unspoiled(temperature)?;
     unspoiled(first)?;
@@ -151,12 +149,7 @@ impl<N: Number> Turn<N> for Page {
     ghost carried = { λ m x a k. (read_steps-carried N.Number.hom N.Number.traced (map_oklab N.Number.back x)).carries m a k };
 
     fn turn<B: Boundary<N>>(boundary: &mut B, x: Oklab<N::Plain>) -> Result<Indication, TurnFault> {
-        let color = Oklab {
-            l: N::from_plain(x.l),
-            a: N::from_plain(x.a),
-            b: N::from_plain(x.b),
-        };
-        read(boundary, color)
+        read(boundary, Oklab::from_plain(x))
     }
 }
 

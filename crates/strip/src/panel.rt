@@ -13,6 +13,7 @@ ghost use Rattle.strip.specs.Fills.{Answering, Fills, Untouched};
 ghost use Rattle.strip.specs.Rows.{row};
 ghost use Rattle.strip.specs.Strip.{shade_of, draw_steps};
 ghost use Rattle.strip.specs.StripMeans.{draw_entry-carried};
+ghost use Rattle.valve_log.specs.Valves.{valve_number};
 
 use crate::row::{Turn, fill};
 use crate::valve::{direction_of, ratio};
@@ -21,15 +22,16 @@ use fault::{RowFault, TurnFault};
 use gamut::oklab::Oklab;
 use number::Number;
 use oklab::{Okhsl, okhsl_to_oklab};
-use valve_log::Reading;
+use valve_log::{Reading, Valve};
 
 // The Okhsl colour of a reading: hue its valve, saturation its opening, lightness its temperature.
-fn shade<N: Number>(reading: Reading) -> Okhsl<N>
+fn shade<N: Number>(valve: Valve, reading: Reading) -> Okhsl<N>
+    requires { valve_number valve ≡ reading.valve }
     ensures { result ≡ shade_of N.ops reading }
 {
     let degrees = 10 + reading.temperature as u16;
     Okhsl {
-        hue: direction_of(reading.valve),
+        hue: direction_of(valve),
         saturation: ratio(reading.opening as i64, 1000),
         lightness: ratio(degrees as i64, 120),
     }
@@ -44,8 +46,9 @@ pub fn draw<N: Number, B: Boundary<N>>(
     ensures meaning { meant_turn (map_oklab N.means) result ≡ run (B.meaning boundary.old) (draw_steps N.arith untold reading) }
     ensures stays { Stays B.meaning B.model boundary.old boundary.new }
 {
+    let valve = Valve::try_from(reading.valve)?;
     reading.check()?;
-    let color = okhsl_to_oklab(shade(reading), boundary)?;
+    let color = okhsl_to_oklab(shade(valve, reading), boundary)?;
     Ok(color)
 }
 
@@ -72,12 +75,8 @@ impl<N: Number> Turn<N> for Panel {
     ghost carried = { λ m x a k. (draw_entry-carried N.Number.hom N.Number.traced N.Number.plain N.Number.back N.Number.again x).carries m a k };
 
     fn turn<B: Boundary<N>>(boundary: &mut B, x: Reading) -> Result<Oklab<N::Plain>, TurnFault> {
-        let color = draw(boundary, x)?;
-        Ok(Oklab {
-            l: color.l.to_plain(),
-            a: color.a.to_plain(),
-            b: color.b.to_plain(),
-        })
+        let color: Oklab<N> = draw(boundary, x)?;
+        Ok(color.to_plain())
     }
 }
 

@@ -41,22 +41,6 @@ pub trait Turn<N: Number> {
     ghost carried: { (g : Gamut) (x : Self.From) (a : ResultOf Self.To TurnFaultOf) → Follows N.means g (steps x) a → meant_turn writes a ≡ run g (plainly (reads x)) };
 }
 
-// Reads one entry of a row.
-fn pick<T: Copy>(row: &[T], i: usize) -> T
-    requires { i < length row.now }
-    ensures { result ≡ slice_index_or row.now i result }
-{
-    row[i]
-}
-
-// Writes one entry of a row.
-fn put<T: Copy>(row: &mut [T], i: usize, x: T)
-    requires { i < length row.old }
-    ensures { row.new ≡ slice_set row.old i x }
-{
-    row[i] = x;
-}
-
 /// Writes each entry of a row from its own of the other, up to the first refusal, whose index the fault holds.
 pub fn fill<N: Number, B: Boundary<N>, T: Turn<N>>(
     boundary: &mut B,
@@ -71,9 +55,10 @@ pub fn fill<N: Number, B: Boundary<N>, T: Turn<N>>(
     if from.len() != to.len() {
         return Err(RowFault::Length);
     }
-    for i in 0..from.len() {
-        let x = at_index(i, T::turn(boundary, pick(from, i)))?;
-        put(to, i, x);
+    // By index into the row that is written: after a `zip` with `iter_mut` no proof knows what was written.
+    for (i, x) in from.iter().enumerate() {
+        let answer = at_index(i, T::turn(boundary, *x))?;
+        to[i] = answer;
     }
     Ok(())
 }

@@ -99,7 +99,7 @@ pub fn replay<N: Number, B: Boundary<N>>(boundary: &mut B, calls: &mut [Call<N::
     ensures queries { (q : QueryOf Meaning) → answered N.arith (B.meaning boundary.new) q ≡ answered N.arith (modelled N.arith (B.model boundary.old)) q }
     ensures stays { Stays B.meaning B.model boundary.old boundary.new }
 {
-    for i in 0..calls.len() {
-        make(boundary, &mut calls[i]);
+    for call in calls.iter_mut() {
+        make(boundary, call);
     }
 }

@@ -1,9 +1,11 @@
 // The hue of each valve.
 ghost use Rattle.std.specs.Prelude.{◌≡◌};
-ghost use Rattle.strip.specs.Strip.{ratio as ratio_of, expansion as expansion_of, four_way, mixing as mixing_of, direction_of};
+ghost use Rattle.strip.specs.Strip.{ratio as ratio_of, direction_of};
+ghost use Rattle.valve_log.specs.Valves.{valve_number};
 
 use gamut::direction::Direction;
 use number::Number;
+use valve_log::Valve;
 
 /// n ÷ d
 pub fn ratio<N: Number>(n: i64, d: u16) -> N
@@ -12,43 +14,17 @@ pub fn ratio<N: Number>(n: i64, d: u16) -> N
     N::whole(n).div(N::whole(d as i64))
 }
 
-/// The direction of valve 1: (3/5, 4/5).
-pub fn expansion<N: Number>() -> Direction<N>
-    ensures { result ≡ expansion_of (ratio_of N.ops) }
+/// The direction of a valve.
+pub fn direction_of<N: Number>(valve: Valve) -> Direction<N>
+    ensures { result ≡ direction_of (ratio_of N.ops) (valve_number valve) }
 {
+    let (a, b, length) = match valve {
+        Valve::Expansion => (3, 4, 5),
+        Valve::FourWay => (-4, 3, 5),
+        Valve::Mixing => (5, -12, 13),
+    };
     Direction {
-        a: ratio(3, 5),
-        b: ratio(4, 5),
-    }
-}
-
-/// The direction of valve 2: (−4/5, 3/5).
-pub fn four_way<N: Number>() -> Direction<N>
-    ensures { result ≡ four_way (ratio_of N.ops) }
-{
-    Direction {
-        a: ratio(-4, 5),
-        b: ratio(3, 5),
-    }
-}
-
-/// The direction of valve 3: (5/13, −12/13).
-pub fn mixing<N: Number>() -> Direction<N>
-    ensures { result ≡ mixing_of (ratio_of N.ops) }
-{
-    Direction {
-        a: ratio(5, 13),
-        b: ratio(-12, 13),
-    }
-}
-
-/// The direction of a valve by its number.
-pub fn direction_of<N: Number>(valve: u8) -> Direction<N>
-    ensures { result ≡ direction_of (ratio_of N.ops) valve }
-{
-    match valve {
-        1 => expansion(),
-        2 => four_way(),
-        _ => mixing(),
+        a: ratio(a, length),
+        b: ratio(b, length),
     }
 }

@@ -21,7 +21,7 @@ returns g c =
     let n = g.N.Number in
     let m = g.B.Boundary.meaning c.args.boundary.now in
     record {
-      value = rw (c.to_plain.ensures, c.to_plain-2.ensures, c.to_plain-3.ensures)
+      value = rw c.to_plain.ensures
           (follows_on n.means m (in_plain (map_oklab n.plain)) (draw_steps n.ops n.traced c.args.x) (Ok c.in_ok-color.color) c.in_ok-color.ensures.value);
       stays = c.draw.ensures.stays;
     }
