@@ -6,22 +6,15 @@ use Rattle.strip.specs.Strip.{draw_steps}
 use Rattle.strip.specs.StripMeans.{follows_on}
 use Rattle.strip.proofs.panel.PanelTurn.turn.Goals as goal
 
-pub returns-in_err-color : goal.returns-in_err-color
-returns-in_err-color g c =
+pub returns-in_err-color-clause-value : goal.returns-in_err-color-clause-value
+returns-in_err-color-clause-value g c =
     let n = g.N.Number in
-    let m = g.B.Boundary.meaning c.args.boundary.now in
     let p = err_from_is_err_and c.from_residual.result c.from_residual.ensures.1 in
-    record {
-      value = rw (p.1, p.2) (follows_on n.means m (in_plain (map_oklab n.plain)) (draw_steps n.ops n.traced c.args.x) (Err c.in_err-color.field-0.0) c.in_err-color.ensures.value);
-      stays = c.draw.ensures.stays;
-    }
+    rw (p.1, p.2)
+    (follows_on n.means (g.B.Boundary.meaning c.args.boundary.now) (in_plain (map_oklab n.plain)) (draw_steps n.ops n.traced c.args.x) (Err c.in_err-color.field-0.0) c.in_err-color.ensures.value)
 
-pub returns : goal.returns
-returns g c =
+pub returns-clause-value : goal.returns-clause-value
+returns-clause-value g c =
     let n = g.N.Number in
-    let m = g.B.Boundary.meaning c.args.boundary.now in
-    record {
-      value = rw c.to_plain.ensures
-          (follows_on n.means m (in_plain (map_oklab n.plain)) (draw_steps n.ops n.traced c.args.x) (Ok c.in_ok-color.color) c.in_ok-color.ensures.value);
-      stays = c.draw.ensures.stays;
-    }
+    rw c.to_plain.ensures
+    (follows_on n.means (g.B.Boundary.meaning c.args.boundary.now) (in_plain (map_oklab n.plain)) (draw_steps n.ops n.traced c.args.x) (Ok c.in_ok-color.color) c.in_ok-color.ensures.value)
