@@ -27,6 +27,7 @@ pub trait Boundary<N: Number> {
     ghost fresh: { Self → Type 0 };
 
     // The query goes by reference: the check gives an impl no clauses of a default method that takes a `Query<N>` by value.
+    // `Stays` stands in every contract: a member for it could be defined otherwise by an impl, and would tell a caller nothing.
     /// The three numbers, whatever they are.
     fn values(&mut self, query: &Query<N>) -> ChromaValues<N>
         ensures gives { map_values N.means result ≡ meaning self.old (map_query N.means query.now) }

@@ -11,7 +11,7 @@ ghost use Rattle.strip.specs.Alike.{meant_turn, ending};
 ghost use Rattle.strip.specs.Entries.{seen, read_entry};
 ghost use Rattle.strip.specs.Fills.{Answering, Fills, Untouched};
 ghost use Rattle.strip.specs.Rows.{row};
-ghost use Rattle.strip.specs.Strip.{ranged, indicated, along as along_of, opening_of, temperature_of, largest as largest_of, indication_of, read_steps};
+ghost use Rattle.strip.specs.Strip.{ranged, indicated, direction_of, ratio, along as along_of, opening_of, temperature_of, largest as largest_of, indication_of, read_steps};
 ghost use Rattle.strip.specs.declared.indication.Indication.{Indication as IndicationOf};
 ghost use Rattle.strip.specs.StripMeans.{read_steps-carried};
 ghost use Rattle.valve_log.specs.Valves.{valve_number};
@@ -27,11 +27,12 @@ use number::Number;
 use oklab::{Okhsl, oklab_to_okhsl, unspoiled};
 use valve_log::Valve;
 
-// a × a' + b × b'
-fn along<N: Number>(d: Direction<N>, e: Direction<N>) -> N
-    ensures { result ≡ along_of N.ops d e }
+// a × a' + b × b', for a hue and the direction of a valve
+fn along<N: Number>(hue: Direction<N>, valve: Valve) -> N
+    ensures { result ≡ along_of N.ops hue (direction_of (ratio N.ops) (valve_number valve)) }
 {
-    d.a.mul(e.a).add(d.b.mul(e.b))
+    let toward = direction_of(valve);
+    hue.a.mul(toward.a).add(hue.b.mul(toward.b))
 }
 
 // The valve with the largest of the three products, the lowest if equal.
@@ -96,9 +97,10 @@ fn indication<N: Number>(color: Okhsl<N>) -> Result<Indication, NumberFault>
 {
     let opening = opening_of(color);
     let temperature = temperature_of(color);
-    let first = along(color.hue, direction_of(Valve::Expansion));
-    let second = along(color.hue, direction_of(Valve::FourWay));
-    let third = along(color.hue, direction_of(Valve::Mixing));
+    let first = along(color.hue, Valve::Expansion);
+    let second = along(color.hue, Valve::FourWay);
+    let third = along(color.hue, Valve::Mixing);
+    // One by one: a slice of numbers of any kind needs a bound on their size in memory.
     unspoiled(opening)?;
     unspoiled(temperature)?;
     unspoiled(first)?;

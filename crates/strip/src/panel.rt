@@ -29,11 +29,10 @@ fn shade<N: Number>(valve: Valve, reading: Reading) -> Okhsl<N>
     requires { valve_number valve ≡ reading.valve }
     ensures { result ≡ shade_of N.ops reading }
 {
-    let degrees = 10 + reading.temperature as u16;
     Okhsl {
         hue: direction_of(valve),
-        saturation: ratio(reading.opening as i64, 1000),
-        lightness: ratio(degrees as i64, 120),
+        saturation: ratio(i64::from(reading.opening), 1000),
+        lightness: ratio(10 + i64::from(reading.temperature), 120),
     }
 }
 

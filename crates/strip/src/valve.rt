@@ -11,7 +11,7 @@ use valve_log::Valve;
 pub fn ratio<N: Number>(n: i64, d: u16) -> N
     ensures { result ≡ ratio_of N.ops n d }
 {
-    N::whole(n).div(N::whole(d as i64))
+    N::whole(n).div(N::whole(i64::from(d)))
 }
 
 /// The direction of a valve.
