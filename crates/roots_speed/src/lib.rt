@@ -26,95 +26,61 @@ fn subnormal(s: u64) -> f32 {
 }
 
 fn bits(x: f32) -> u64 {
-    std::num::f32_to_bits_with_nan(x) as u64
+    u64::from(std::num::f32_to_bits_with_nan(x))
+}
+
+// The sum of the results at `count` pseudorandom numbers.
+#[inline(always)]
+fn sum_of<F: Fn(u64) -> u64>(count: u32, result_at: F) -> u64
+    requires { F.IsAlwaysCallable result_at }
+{
+    let mut s: u64 = 42;
+    let mut sum: u64 = 0;
+    for _ in 0..count {
+        s = step(s);
+        sum = sum.wrapping_add(result_at(s));
+    }
+    sum
 }
 
 #[unsafe(no_mangle)]
 pub extern "C" fn rattle_nothing(count: u32) -> u64 {
-    let mut s: u64 = 42;
-    let mut sum: u64 = 0;
-    for _ in 0..count {
-        s = step(s);
-        sum = sum.wrapping_add(bits(input(s)));
-    }
-    sum
+    sum_of(count, |s| bits(input(s)))
 }
 
 #[unsafe(no_mangle)]
 pub extern "C" fn rattle_sqrt(count: u32) -> u64 {
-    let mut s: u64 = 42;
-    let mut sum: u64 = 0;
-    for _ in 0..count {
-        s = step(s);
-        sum = sum.wrapping_add(bits(roots::sqrt_f32(input(s))));
-    }
-    sum
+    sum_of(count, |s| bits(roots::sqrt_f32(input(s))))
 }
 
 #[unsafe(no_mangle)]
 pub extern "C" fn rattle_cbrt(count: u32) -> u64 {
-    let mut s: u64 = 42;
-    let mut sum: u64 = 0;
-    for _ in 0..count {
-        s = step(s);
-        sum = sum.wrapping_add(bits(roots::cbrt_f32(input(s))));
-    }
-    sum
+    sum_of(count, |s| bits(roots::cbrt_f32(input(s))))
 }
 
 #[unsafe(no_mangle)]
 pub extern "C" fn rattle_cbrt_signs(count: u32) -> u64 {
-    let mut s: u64 = 42;
-    let mut sum: u64 = 0;
-    for _ in 0..count {
-        s = step(s);
-        sum = sum.wrapping_add(bits(roots::cbrt_f32(signed(s))));
-    }
-    sum
+    sum_of(count, |s| bits(roots::cbrt_f32(signed(s))))
 }
 
 #[unsafe(no_mangle)]
 pub extern "C" fn rattle_sqrt_subnormal(count: u32) -> u64 {
-    let mut s: u64 = 42;
-    let mut sum: u64 = 0;
-    for _ in 0..count {
-        s = step(s);
-        sum = sum.wrapping_add(bits(roots::sqrt_f32(subnormal(s))));
-    }
-    sum
+    sum_of(count, |s| bits(roots::sqrt_f32(subnormal(s))))
 }
 
 #[unsafe(no_mangle)]
 pub extern "C" fn rattle_cbrt_subnormal(count: u32) -> u64 {
-    let mut s: u64 = 42;
-    let mut sum: u64 = 0;
-    for _ in 0..count {
-        s = step(s);
-        sum = sum.wrapping_add(bits(roots::cbrt_f32(subnormal(s))));
-    }
-    sum
+    sum_of(count, |s| bits(roots::cbrt_f32(subnormal(s))))
 }
 
 #[unsafe(no_mangle)]
 pub extern "C" fn rattle_whole_sqrt(count: u32) -> u64 {
-    let mut s: u64 = 42;
-    let mut sum: u64 = 0;
-    for _ in 0..count {
-        s = step(s);
-        sum = sum.wrapping_add(roots::whole_sqrt(s >> (s % 64)));
-    }
-    sum
+    sum_of(count, |s| roots::whole_sqrt(s >> (s % 64)))
 }
 
 #[unsafe(no_mangle)]
 pub extern "C" fn rattle_whole_cbrt(count: u32) -> u64 {
-    let mut s: u64 = 42;
-    let mut sum: u64 = 0;
-    for _ in 0..count {
-        s = step(s);
-        sum = sum.wrapping_add(roots::whole_cbrt(s >> (s % 64)));
-    }
-    sum
+    sum_of(count, |s| roots::whole_cbrt(s >> (s % 64)))
 }
 
 #[unsafe(no_mangle)]
