@@ -1,3 +1,2 @@
 pub mod Listing
-pub mod Answers
 pub mod Cases

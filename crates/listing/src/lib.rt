@@ -1,70 +1,42 @@
 // The text of the listing, block by block.
 #![tactic(auto)]
 
-ghost use Rattle.std.specs.Prelude.{◌≡◌, ◌++◌, pos, string_bytes, OnOk};
+ghost use Rattle.std.specs.Prelude.{◌≡◌, ◌++◌, pos, string_bytes, IfOk, Ok, OnOk};
 ghost use Rattle.boundary.specs.Triangles.{triangle_meaning};
 ghost use Rattle.fraction.specs.Bounded.{arithmetic, ratio};
 ghost use Rattle.fraction.specs.Fractions.{meaning_of};
-ghost use Rattle.listing.specs.Answers.{row_text, plain_text};
+ghost use Rattle.gamut.specs.Maps.{map_oklab};
+ghost use Rattle.strip.specs.Alike.{meant_turn};
 ghost use Rattle.listing.specs.Cases.{CasesHold};
-ghost use Rattle.listing.specs.Listing.{listed, drawn, color_text, start_of, line_of, lines_of, refusal_of, block_text};
+ghost use Rattle.listing.specs.Listing.{listed, color_text, start_of, line_of, lines_of, refusal_of, block_text};
 
 use boundary::Triangle;
-use fault::{BlockFault, RowFault};
-use fraction::{Fraction, PlainFraction};
+use fault::{BlockFault, NumberFault, TurnFault};
+use fraction::Fraction;
 use gamut::oklab::Oklab;
-use number::Number;
 use std::fmt;
-use strip::panel::draw_row;
+use strip::panel::draw;
 use valve_log::Reading;
 
-const BLANK: Reading = Reading {
+/// An entry of a row that no block has been read to.
+pub const BLANK: Reading = Reading {
     minute: 0,
     valve: 0,
     temperature: 0,
     opening: 0,
 };
 
-const ZERO: PlainFraction = PlainFraction {
-    numerator: 0,
-    denominator: 1,
-    lost: false,
-};
-
-const BLACK: Oklab<PlainFraction> = Oklab {
-    l: ZERO,
-    a: ZERO,
-    b: ZERO,
-};
-
-// Draws a reading as a row of its own.
-fn draw_alone(
-    boundary: &mut Triangle<Fraction>,
-    reading: Reading,
-) -> Result<Oklab<PlainFraction>, RowFault>
-    requires { triangle_meaning arithmetic meaning_of boundary.old ≡ listed }
-    ensures text { row_text result ≡ color_text (drawn reading) }
-    ensures stays { triangle_meaning arithmetic meaning_of boundary.new ≡ listed }
-{
-    let readings = [reading];
-    let mut colors = [BLACK];
-    draw_row::<Fraction, Triangle<Fraction>>(boundary, &readings, &mut colors)?;
-    Ok(colors[0])
-}
-
 // Appends the three numbers of a colour.
-fn put_color(text: &mut String, color: Oklab<PlainFraction>) -> fmt::Result
-    ensures { OnOk result (string_bytes text.new ≡ string_bytes text.old ++ plain_text color) }
+fn put_color(text: &mut String, color: Oklab<Fraction>) -> fmt::Result
+    ensures { OnOk result (string_bytes text.new ≡ string_bytes text.old ++ color_text (Ok (map_oklab meaning_of color))) }
 {
-    let l = Fraction::from_plain(color.l);
-    let a = Fraction::from_plain(color.a);
-    let b = Fraction::from_plain(color.b);
+    let Oklab { l, a, b } = color;
     Ok(writeln!(text, "{l} {a} {b}")?)
 }
 
 // Appends how a line ends: a colour, or the number of its refusal.
-fn put_answer(text: &mut String, answer: Result<Oklab<PlainFraction>, RowFault>) -> fmt::Result
-    ensures { OnOk result (string_bytes text.new ≡ string_bytes text.old ++ row_text answer) }
+fn put_answer(text: &mut String, answer: Result<Oklab<Fraction>, TurnFault>) -> fmt::Result
+    ensures { OnOk result (string_bytes text.new ≡ string_bytes text.old ++ color_text (meant_turn (map_oklab meaning_of) answer)) }
 {
     match answer {
         Ok(color) => put_color(text, color),
@@ -82,39 +54,6 @@ fn put_start(text: &mut String, number: u32, i: usize, valve: u8) -> fmt::Result
     Ok(write!(text, "{number} {i} {valve} ")?)
 }
 
-// Appends the line of one reading.
-fn put_reading(
-    text: &mut String,
-    boundary: &mut Triangle<Fraction>,
-    number: u32,
-    i: usize,
-    reading: Reading,
-) -> fmt::Result
-    requires { triangle_meaning arithmetic meaning_of boundary.old ≡ listed }
-    ensures text { OnOk result (string_bytes text.new ≡ string_bytes text.old ++ line_of number i reading) }
-    ensures stays { triangle_meaning arithmetic meaning_of boundary.new ≡ listed }
-{
-    let answer = draw_alone(boundary, reading);
-    put_start(text, number, i, reading.valve)?;
-    put_answer(text, answer)
-}
-
-// Appends the lines of a row.
-fn put_row(
-    text: &mut String,
-    boundary: &mut Triangle<Fraction>,
-    number: u32,
-    row: &[Reading],
-) -> fmt::Result
-    requires { triangle_meaning arithmetic meaning_of boundary.old ≡ listed }
-    ensures { OnOk result (string_bytes text.new ≡ string_bytes text.old ++ lines_of number 0 row.now) }
-{
-    for i in 0..row.len() {
-        put_reading(text, boundary, number, i, row[i])?;
-    }
-    Ok(())
-}
-
 // Appends the line of a refused block, before which there were `place` blocks.
 fn put_refusal(text: &mut String, fault: BlockFault, place: u64) -> fmt::Result
     ensures { OnOk result (string_bytes text.new ≡ string_bytes text.old ++ refusal_of fault place) }
@@ -129,22 +68,53 @@ fn half() -> Fraction
     Fraction::new(1, 2)
 }
 
+// The lister of the block with this number.
+#[derive(Drop)]
+struct Lister {
+    boundary: Triangle<Fraction>,
+    number: u32,
+    ghost as_listed: { triangle_meaning arithmetic meaning_of boundary ≡ listed },
+}
+
+impl Lister {
+    fn new(number: u32) -> Result<Lister, NumberFault>
+        ensures { IfOk result (λ lister. lister.number ≡ number) }
+    {
+        let boundary = Triangle::new(half(), half())?;
+        Ok(Lister { boundary, number })
+    }
+
+    // Appends the line of one reading.
+    fn put_reading(&mut self, text: &mut String, i: usize, reading: Reading) -> fmt::Result
+        ensures text { OnOk result (string_bytes text.new ≡ string_bytes text.old ++ line_of self.old.number i reading) }
+        ensures same_number { self.new.number ≡ self.old.number }
+    {
+        put_start(text, self.number, i, reading.valve)?;
+        put_answer(text, draw(&mut self.boundary, reading))
+    }
+
+    // Appends the lines of a row.
+    fn put_row(&mut self, text: &mut String, row: &[Reading]) -> fmt::Result
+        ensures { OnOk result (string_bytes text.new ≡ string_bytes text.old ++ lines_of self.old.number 0 row.now) }
+    {
+        for (i, reading) in row.iter().enumerate() {
+            self.put_reading(text, i, *reading)?;
+        }
+        Ok(())
+    }
+}
+
 /// Appends the listing of a block, which is the `place`th from 0: a line for each reading, or one for the block's refusal. A short
 /// block is refused.
 pub fn put_block(text: &mut String, bytes: &[u8], place: u64) -> fmt::Result
     ensures { OnOk result (string_bytes text.new ≡ string_bytes text.old ++ block_text place bytes.now) }
 {
-    let Ok(mut boundary) = Triangle::new(half(), half()) else {
-        return Err(fmt::Error);
-    };
     let mut row = [BLANK; 62];
     match valve_log::read(bytes, &mut row) {
-        Ok(head) => put_row(
-            text,
-            &mut boundary,
-            head.number,
-            &row[0..usize::from(head.count)],
-        ),
+        Ok(head) => {
+            let mut lister = Lister::new(head.number).map_err(|_| fmt::Error)?;
+            lister.put_row(text, &row[0..usize::from(head.count)])
+        }
         Err(fault) => put_refusal(text, fault, place),
     }
 }
