@@ -3,42 +3,58 @@
 // library's root differs from, and how many it checked.
 #![tactic(auto)]
 
+use std::collections::BTreeMap;
+use std::fmt;
 use std::io::{BufRead, BufReader};
+use std::num::{f32_from_bits_with_nan, f32_to_bits_with_nan};
+use std::str::FromStr;
+use tally::Tally;
 
-#[derive(Clone, Copy, Drop)]
+#[derive(Clone, Copy, PartialEq, Eq, PartialOrd, Ord)]
 enum Kind {
     Sqrt,
     Cbrt,
 }
 
-#[derive(Clone, Copy, Drop)]
+// No root has this name.
+#[derive(Clone, Copy)]
+struct UnknownKind;
+
+impl FromStr for Kind {
+    type Err = UnknownKind;
+
+    fn from_str(name: &str) -> Result<Kind, UnknownKind> {
+        match name {
+            "sqrt" => Ok(Kind::Sqrt),
+            "cbrt" => Ok(Kind::Cbrt),
+            _ => Err(UnknownKind),
+        }
+    }
+}
+
+impl fmt::Display for Kind {
+    fn fmt<W: fmt::Write>(&self, f: &mut fmt::Formatter<W>) -> fmt::Result {
+        f.write_str(match self {
+            Kind::Sqrt => "sqrt",
+            Kind::Cbrt => "cbrt",
+        })
+    }
+}
+
+#[derive(Clone, Copy)]
 struct Row {
     kind: Kind,
     operand: u32,
     root: u32,
 }
 
-// How many rows of a kind were checked, and how many roots differ.
-#[derive(Clone, Copy, Drop)]
-struct Tally {
-    checked: u32,
-    mismatches: u32,
-}
-
 fn pattern(word: Option<&str>) -> Option<u32> {
-    match u32::from_str_radix(word?, 16) {
-        Ok(n) => Some(n),
-        Err(_) => None,
-    }
+    u32::from_str_radix(word?, 16).ok()
 }
 
 fn parse_row(line: &str) -> Option<Row> {
     let mut words = line.split_whitespace();
-    let kind = match words.next()? {
-        "sqrt" => Kind::Sqrt,
-        "cbrt" => Kind::Cbrt,
-        _ => return None,
-    };
+    let kind = words.next()?.parse().ok()?;
     let operand = pattern(words.next())?;
     if words.next()? != "=" {
         return None;
@@ -55,62 +71,33 @@ fn parse_row(line: &str) -> Option<Row> {
 }
 
 fn root_of(kind: Kind, operand: u32) -> u32 {
-    let x = std::num::f32_from_bits_with_nan(operand);
-    let r = match kind {
+    let x = f32_from_bits_with_nan(operand);
+    f32_to_bits_with_nan(match kind {
         Kind::Sqrt => roots::sqrt_f32(x),
         Kind::Cbrt => roots::cbrt_f32(x),
-    };
-    std::num::f32_to_bits_with_nan(r)
-}
-
-fn count(tally: Tally, right: bool) -> Tally {
-    Tally {
-        checked: tally.checked.saturating_add(1),
-        mismatches: if right {
-            tally.mismatches
-        } else {
-            tally.mismatches.saturating_add(1)
-        },
-    }
-}
-
-fn show(rt: &impl Print, name: &str, tally: Tally) -> anyhow::Result<()> {
-    let Tally {
-        checked,
-        mismatches,
-    } = tally;
-    println!(rt; "{name}: {checked} checked, {mismatches} mismatches")?;
-    Ok(())
+    })
 }
 
 fn run(rt: &HostRuntime) -> anyhow::Result<()> {
-    let mut sqrt = Tally {
-        checked: 0,
-        mismatches: 0,
-    };
-    let mut cbrt = Tally {
-        checked: 0,
-        mismatches: 0,
-    };
+    let mut tallies = BTreeMap::<Kind, Tally>::new(rt.alloc());
     for line in BufReader::new(rt.alloc(), rt.stdin())?.lines(rt.alloc()) {
         let line = line?;
-        match parse_row(line.as_str()) {
-            None => println!(rt; "not a row: {line}")?,
-            Some(row) => {
-                let found = root_of(row.kind, row.operand);
-                let right = found == row.root;
-                if !right {
-                    println!(rt; "{line}, but found {found:08x}")?;
-                }
-                match row.kind {
-                    Kind::Sqrt => sqrt = count(sqrt, right),
-                    Kind::Cbrt => cbrt = count(cbrt, right),
-                }
-            }
+        let Some(row) = parse_row(line.as_str()) else {
+            println!(rt; "not a row: {line}")?;
+            continue;
+        };
+        let found = root_of(row.kind, row.operand);
+        let is_right = found == row.root;
+        if !is_right {
+            println!(rt; "{line}, but found {found:08x}")?;
         }
+        tallies.entry(row.kind)?.or_default().count(is_right);
     }
-    show(rt, "sqrt", sqrt)?;
-    show(rt, "cbrt", cbrt)
+    for kind in [Kind::Sqrt, Kind::Cbrt] {
+        let tally = tallies.get(&kind).copied().unwrap_or_default();
+        println!(rt; "{kind}: {tally}")?;
+    }
+    Ok(())
 }
 
 fn main(rt: HostRuntime) -> anyhow::Result<()> {
