@@ -1,7 +1,6 @@
 // The conversions of the table, by their names, at f32.
-use crate::row::Numbers;
+use crate::row::{Found, Words, compare};
 use boundary::Srgb;
-use fault::NumberFault;
 use gamut::direction::Direction;
 use gamut::oklab::Oklab;
 use gamut::rgb::LinSrgb;
@@ -13,9 +12,11 @@ use oklab::{
     oklab_to_oklch, oklab_to_xyz, oklch_to_oklab, xyz_to_oklab,
 };
 use srgb_gamut::{LC, from_normalized};
+use std::fmt;
+use std::str::FromStr;
 
 /// A conversion, or a part of one.
-#[derive(Clone, Copy, Drop)]
+#[derive(Clone, Copy, PartialEq, Eq, PartialOrd, Ord)]
 pub enum Conversion {
     OkhslToOklab,
     OklabToOkhsl,
@@ -57,7 +58,7 @@ pub const ALL: [Conversion; 16] = [
 
 impl Conversion {
     /// The name in a row.
-    pub(crate) fn name(self) -> &'static str {
+    fn name(self) -> &'static str {
         match self {
             Conversion::OkhslToOklab => "okhsl>oklab",
             Conversion::OklabToOkhsl => "oklab>okhsl",
@@ -78,178 +79,63 @@ impl Conversion {
         }
     }
 
-    /// The conversion of a row's name.
-    pub(crate) fn named(name: &str) -> Option<Conversion> {
-        for conversion in ALL {
-            if conversion.name() == name {
-                return Some(conversion);
-            }
-        }
-        None
-    }
-
-    /// How many numbers a row has before and after its `=`.
-    pub(crate) fn counts(self) -> (u8, u8) {
+    /// Compares what the words after the name in a row expect with what the library gives, which is the error where the two differ.
+    /// None if these are not the words of a row.
+    pub(crate) fn replay(self, words: &mut Words) -> Option<Result<(), Found>> {
         match self {
-            Conversion::OkhslToOklab | Conversion::OkhsvToOklab | Conversion::OklchToOklab => (
-                4, 3,
+            Conversion::OkhslToOklab => compare(
+                words,
+                |color: Okhsl<f32>| okhsl_to_oklab(color, &mut Srgb::new()),
             ),
-            Conversion::OklabToOkhsl | Conversion::OklabToOkhsv | Conversion::OklabToOklch => (
-                3, 4,
+            Conversion::OklabToOkhsl => compare(
+                words,
+                |color: Oklab<f32>| oklab_to_okhsl(color, &mut Srgb::new()),
             ),
-            Conversion::OkhwbToOkhsv | Conversion::OkhsvToOkhwb => (4, 4),
-            Conversion::Cusp => (2, 2),
-            Conversion::Toe | Conversion::ToeInv => (1, 1),
-            _ => (3, 3),
+            Conversion::OkhsvToOklab => compare(words, |color: Okhsv<f32>| okhsv_to_oklab(color)),
+            Conversion::OklabToOkhsv => compare(words, |color: Oklab<f32>| oklab_to_okhsv(color)),
+            Conversion::OkhwbToOkhsv => compare(words, |color: Okhwb<f32>| okhwb_to_okhsv(color)),
+            Conversion::OkhsvToOkhwb => compare(words, |color: Okhsv<f32>| okhsv_to_okhwb(color)),
+            Conversion::OklchToOklab => compare(words, |color: Oklch<f32>| oklch_to_oklab(color)),
+            Conversion::OklabToOklch => compare(words, |color: Oklab<f32>| oklab_to_oklch(color)),
+            Conversion::RgbToOklab => compare(
+                words,
+                |color: LinSrgb<f32>| linear_srgb_to_oklab(color),
+            ),
+            Conversion::OklabToRgb => compare(
+                words,
+                |color: Oklab<f32>| oklab_to_linear_srgb(color),
+            ),
+            Conversion::XyzToOklab => compare(words, |color: Xyz<f32>| xyz_to_oklab(color)),
+            Conversion::OklabToXyz => compare(words, |color: Oklab<f32>| oklab_to_xyz(color)),
+            Conversion::ChromaValues => {
+                compare(
+                    words,
+                    |(lightness, hue): (f32, Direction<f32>)| Ok(from_normalized(lightness, hue)),
+                )
+            }
+            Conversion::Cusp => compare(words, |hue: Direction<f32>| Ok(LC::find_cusp(hue))),
+            Conversion::Toe => compare(words, |lightness: f32| Ok(toe(lightness))),
+            Conversion::ToeInv => compare(words, |lightness: f32| Ok(toe_inv(lightness))),
         }
     }
 }
 
-fn direction(a: f32, b: f32) -> Direction<f32> {
-    Direction { a, b }
-}
-
-fn okhsl(x: Numbers) -> Okhsl<f32> {
-    Okhsl {
-        hue: direction(x.first, x.second),
-        saturation: x.third,
-        lightness: x.fourth,
+impl fmt::Display for Conversion {
+    fn fmt<W: fmt::Write>(&self, f: &mut fmt::Formatter<W>) -> fmt::Result {
+        f.write_str(self.name())
     }
 }
 
-fn of_okhsl(color: Okhsl<f32>) -> Numbers {
-    Numbers {
-        first: color.hue.a,
-        second: color.hue.b,
-        third: color.saturation,
-        fourth: color.lightness,
+/// No conversion has this name.
+#[derive(Clone, Copy)]
+pub struct UnknownConversion;
+
+impl FromStr for Conversion {
+    type Err = UnknownConversion;
+
+    fn from_str(name: &str) -> Result<Conversion, UnknownConversion> {
+        ALL.into_iter()
+            .find(|conversion| conversion.name() == name)
+            .ok_or(UnknownConversion)
     }
-}
-
-fn okhsv(x: Numbers) -> Okhsv<f32> {
-    Okhsv {
-        hue: direction(x.first, x.second),
-        saturation: x.third,
-        value: x.fourth,
-    }
-}
-
-fn of_okhsv(color: Okhsv<f32>) -> Numbers {
-    Numbers {
-        first: color.hue.a,
-        second: color.hue.b,
-        third: color.saturation,
-        fourth: color.value,
-    }
-}
-
-fn okhwb(x: Numbers) -> Okhwb<f32> {
-    Okhwb {
-        hue: direction(x.first, x.second),
-        whiteness: x.third,
-        blackness: x.fourth,
-    }
-}
-
-fn of_okhwb(color: Okhwb<f32>) -> Numbers {
-    Numbers {
-        first: color.hue.a,
-        second: color.hue.b,
-        third: color.whiteness,
-        fourth: color.blackness,
-    }
-}
-
-fn oklch(x: Numbers) -> Oklch<f32> {
-    Oklch {
-        l: x.first,
-        chroma: x.second,
-        hue: direction(x.third, x.fourth),
-    }
-}
-
-fn of_oklch(color: Oklch<f32>) -> Numbers {
-    Numbers {
-        first: color.l,
-        second: color.chroma,
-        third: color.hue.a,
-        fourth: color.hue.b,
-    }
-}
-
-fn three(first: f32, second: f32, third: f32) -> Numbers {
-    Numbers {
-        first,
-        second,
-        third,
-        fourth: 0.0,
-    }
-}
-
-fn oklab(x: Numbers) -> Oklab<f32> {
-    Oklab {
-        l: x.first,
-        a: x.second,
-        b: x.third,
-    }
-}
-
-fn of_oklab(color: Oklab<f32>) -> Numbers {
-    three(color.l, color.a, color.b)
-}
-
-fn rgb(x: Numbers) -> LinSrgb<f32> {
-    LinSrgb {
-        red: x.first,
-        green: x.second,
-        blue: x.third,
-    }
-}
-
-fn of_rgb(color: LinSrgb<f32>) -> Numbers {
-    three(color.red, color.green, color.blue)
-}
-
-fn xyz(x: Numbers) -> Xyz<f32> {
-    Xyz {
-        x: x.first,
-        y: x.second,
-        z: x.third,
-    }
-}
-
-fn of_xyz(color: Xyz<f32>) -> Numbers {
-    three(color.x, color.y, color.z)
-}
-
-fn chroma_values(x: Numbers) -> Numbers {
-    let values = from_normalized(x.first, direction(x.second, x.third));
-    three(values.zero, values.mid, values.max)
-}
-
-fn cusp(x: Numbers) -> Numbers {
-    let cusp = LC::find_cusp(direction(x.first, x.second));
-    three(cusp.lightness, cusp.chroma, 0.0)
-}
-
-/// What the library gives for the numbers.
-pub(crate) fn convert(conversion: Conversion, x: Numbers) -> Result<Numbers, NumberFault> {
-    Ok(match conversion {
-        Conversion::OkhslToOklab => of_oklab(okhsl_to_oklab(okhsl(x), &mut Srgb::new())?),
-        Conversion::OklabToOkhsl => of_okhsl(oklab_to_okhsl(oklab(x), &mut Srgb::new())?),
-        Conversion::OkhsvToOklab => of_oklab(okhsv_to_oklab(okhsv(x))?),
-        Conversion::OklabToOkhsv => of_okhsv(oklab_to_okhsv(oklab(x))?),
-        Conversion::OkhwbToOkhsv => of_okhsv(okhwb_to_okhsv(okhwb(x))?),
-        Conversion::OkhsvToOkhwb => of_okhwb(okhsv_to_okhwb(okhsv(x))?),
-        Conversion::OklchToOklab => of_oklab(oklch_to_oklab(oklch(x))?),
-        Conversion::OklabToOklch => of_oklch(oklab_to_oklch(oklab(x))?),
-        Conversion::RgbToOklab => of_oklab(linear_srgb_to_oklab(rgb(x))?),
-        Conversion::OklabToRgb => of_rgb(oklab_to_linear_srgb(oklab(x))?),
-        Conversion::XyzToOklab => of_oklab(xyz_to_oklab(xyz(x))?),
-        Conversion::OklabToXyz => of_xyz(oklab_to_xyz(oklab(x))?),
-        Conversion::ChromaValues => chroma_values(x),
-        Conversion::Cusp => cusp(x),
-        Conversion::Toe => three(toe(x.first), 0.0, 0.0),
-        Conversion::ToeInv => three(toe_inv(x.first), 0.0, 0.0),
-    })
 }

@@ -4,94 +4,43 @@
 // from, and how many it checked.
 #![tactic(auto)]
 
+mod columns;
 mod conversion;
 mod row;
 
-use conversion::{ALL, Conversion, convert};
-use fault::NumberFault;
-use row::{Numbers, parse_row};
+use conversion::{ALL, Conversion};
+use row::Found;
+use std::collections::BTreeMap;
 use std::io::{BufRead, BufReader};
-use std::num::f32_to_bits_with_nan;
+use tally::Tally;
 
-// How many rows of a conversion were checked, and how many differ.
-#[derive(Clone, Copy, Drop)]
-struct Tally {
-    checked: u32,
-    mismatches: u32,
-}
-
-fn is_as_expected(found: Result<Numbers, NumberFault>, expected: Result<Numbers, u8>) -> bool {
-    match (found, expected) {
-        (Ok(x), Ok(y)) => x.is_same(y),
-        (Err(fault), Err(number)) => fault.refusal().number == number,
-        _ => false,
-    }
-}
-
-fn count(tally: Tally, right: bool) -> Tally {
-    Tally {
-        checked: tally.checked.saturating_add(1),
-        mismatches: if right {
-            tally.mismatches
-        } else {
-            tally.mismatches.saturating_add(1)
-        },
-    }
-}
-
-fn show_mismatch(
-    rt: &impl Print,
-    line: &str,
-    found: Result<Numbers, NumberFault>,
-) -> anyhow::Result<()> {
-    match found {
-        Ok(x) => {
-            let first = f32_to_bits_with_nan(x.first);
-            let second = f32_to_bits_with_nan(x.second);
-            let third = f32_to_bits_with_nan(x.third);
-            let fourth = f32_to_bits_with_nan(x.fourth);
-            println!(rt; "{line}, but found {first:08x} {second:08x} {third:08x} {fourth:08x}")?;
-        }
-        Err(fault) => {
-            let number = fault.refusal().number;
-            println!(rt; "{line}, but found refused {number}")?;
-        }
-    }
-    Ok(())
-}
-
-fn show_tally(rt: &impl Print, conversion: Conversion, tally: Tally) -> anyhow::Result<()> {
-    let name = conversion.name();
-    let Tally {
-        checked,
-        mismatches,
-    } = tally;
-    println!(rt; "{name}: {checked} checked, {mismatches} mismatches")?;
-    Ok(())
+// Replays a row: its conversion, and what the library gives where the row expects another answer.
+fn replay(line: &str) -> Option<(Conversion, Result<(), Found>)> {
+    let mut words = line.split_whitespace().peekable();
+    let conversion = words.next()?.parse::<Conversion>().ok()?;
+    let outcome = conversion.replay(&mut words)?;
+    Some((conversion, outcome))
 }
 
 fn run(rt: &HostRuntime) -> anyhow::Result<()> {
-    let mut tallies = [Tally {
-        checked: 0,
-        mismatches: 0,
-    }; 16];
+    let mut tallies = BTreeMap::<Conversion, Tally>::new(rt.alloc());
     for line in BufReader::new(rt.alloc(), rt.stdin())?.lines(rt.alloc()) {
         let line = line?;
-        match parse_row(line.as_str()) {
-            None => println!(rt; "not a row: {line}")?,
-            Some(row) => {
-                let found = convert(row.conversion, row.given);
-                let right = is_as_expected(found, row.expected);
-                if !right {
-                    show_mismatch(rt, line.as_str(), found)?;
-                }
-                let i = row.conversion as usize;
-                tallies[i] = count(tallies[i], right);
-            }
+        let Some((conversion, outcome)) = replay(line.as_str()) else {
+            println!(rt; "not a row: {line}")?;
+            continue;
+        };
+        if let Err(found) = outcome {
+            println!(rt; "{line}, but found {found}")?;
         }
+        tallies
+            .entry(conversion)?
+            .or_default()
+            .count(outcome.is_ok());
     }
     for conversion in ALL {
-        show_tally(rt, conversion, tallies[conversion as usize])?;
+        let tally = tallies.get(&conversion).copied().unwrap_or_default();
+        println!(rt; "{conversion}: {tally}")?;
     }
     Ok(())
 }

@@ -1,98 +1,91 @@
-// A row of the table: a conversion, the numbers that it is given, and what is expected of it.
-use crate::conversion::Conversion;
+// What stands in a row after the conversion's name, and how it compares with what the library gives.
+use crate::columns::Columns;
+use fault::NumberFault;
+use std::fmt;
+use std::iter::Peekable;
 use std::num::{f32_from_bits_with_nan, f32_to_bits_with_nan};
 use std::str::SplitWhitespace;
 
-/// Up to four numbers; those that a conversion does not have are 0.
-#[derive(Clone, Copy, Drop)]
-pub struct Numbers {
-    pub first: f32,
-    pub second: f32,
-    pub third: f32,
-    pub fourth: f32,
-}
+/// The words of a row that are still to be read.
+pub(crate) type Words<'a> = Peekable<SplitWhitespace<'a>>;
 
-fn is_same(x: f32, y: f32) -> bool {
-    f32_to_bits_with_nan(x) == f32_to_bits_with_nan(y)
-}
+/// The number of a refusal, as the table has it.
+#[derive(Clone, Copy, PartialEq, Eq)]
+pub(crate) struct Refused(u8);
 
-impl Numbers {
-    /// Whether all four have the same bits, all not-a-numbers alike.
-    pub(crate) fn is_same(self, other: Numbers) -> bool {
-        is_same(self.first, other.first)
-            && is_same(self.second, other.second)
-            && is_same(self.third, other.third)
-            && is_same(self.fourth, other.fourth)
+impl From<NumberFault> for Refused {
+    fn from(fault: NumberFault) -> Refused {
+        Refused(fault.refusal().number)
     }
 }
 
-/// A row of the table.
-#[derive(Clone, Copy, Drop)]
-pub struct Row {
-    pub conversion: Conversion,
-    pub given: Numbers,
-    /// The answer, or the number of the refusal.
-    pub expected: Result<Numbers, u8>,
+/// What the library gives for a row: the bit patterns of its numbers, before zeros, or the number of its refusal.
+#[derive(Clone, Copy)]
+pub(crate) struct Found(Result<[u32; 4], Refused>);
+
+impl fmt::Display for Found {
+    fn fmt<W: fmt::Write>(&self, f: &mut fmt::Formatter<W>) -> fmt::Result {
+        match self.0 {
+            Ok(patterns) => {
+                let [first, second, third, fourth] = patterns;
+                write!(f, "{first:08x} {second:08x} {third:08x} {fourth:08x}")
+            }
+            Err(Refused(number)) => write!(f, "refused {number}"),
+        }
+    }
+}
+
+/// The bit patterns of up to four numbers, all not-a-numbers alike, and zeros after them.
+pub(crate) fn patterns<const N: usize>(numbers: [f32; N]) -> [u32; 4] {
+    let mut patterns = [0; 4];
+    for (pattern, number) in patterns.iter_mut().zip(&numbers) {
+        *pattern = f32_to_bits_with_nan(*number);
+    }
+    patterns
 }
 
 fn parse_number(word: &str) -> Option<f32> {
-    match u32::from_str_radix(word, 16) {
-        Ok(bits) => Some(f32_from_bits_with_nan(bits)),
-        Err(_) => None,
+    let bits = u32::from_str_radix(word, 16).ok()?;
+    Some(f32_from_bits_with_nan(bits))
+}
+
+/// The next N numbers. None if they are not there.
+pub(crate) fn parse_numbers<const N: usize>(words: &mut Words) -> Option<[f32; N]> {
+    let mut numbers = [0.0; N];
+    for number in &mut numbers {
+        *number = parse_number(words.next()?)?;
     }
+    Some(numbers)
 }
 
-// The next number where there is to be one, else 0.
-fn next_number(words: &mut SplitWhitespace, wanted: bool) -> Option<f32> {
-    if wanted {
-        parse_number(words.next()?)
-    } else {
-        Some(0.0)
+fn parse_expected<B: Columns>(words: &mut Words) -> Option<Result<[u32; 4], Refused>> {
+    if words.next_if_eq(&"refused").is_some() {
+        let number = words.next()?.parse().ok()?;
+        return Some(Err(Refused(number)));
     }
+    Some(Ok(B::parse(words)?.patterns()))
 }
 
-// So many numbers, the first of which is at hand.
-fn parse_numbers(first: &str, words: &mut SplitWhitespace, count: u8) -> Option<Numbers> {
-    Some(Numbers {
-        first: parse_number(first)?,
-        second: next_number(words, 1 < count)?,
-        third: next_number(words, 2 < count)?,
-        fourth: next_number(words, 3 < count)?,
-    })
-}
-
-fn parse_refusal(word: &str) -> Option<u8> {
-    match u8::from_str_radix(word, 10) {
-        Ok(number) => Some(number),
-        Err(_) => None,
-    }
-}
-
-fn parse_expected(words: &mut SplitWhitespace, count: u8) -> Option<Result<Numbers, u8>> {
-    let first = words.next()?;
-    if first == "refused" {
-        Some(Err(parse_refusal(words.next()?)?))
-    } else {
-        Some(Ok(parse_numbers(first, words, count)?))
-    }
-}
-
-/// The row of a line, if it is one.
-pub(crate) fn parse_row(line: &str) -> Option<Row> {
-    let mut words = line.split_whitespace();
-    let conversion = Conversion::named(words.next()?)?;
-    let (inputs, outputs) = conversion.counts();
-    let given = parse_numbers(words.next()?, &mut words, inputs)?;
+/// Compares what a row expects with what `convert` gives for its numbers, which is the error where the two differ. None if these
+/// are not the words of a row.
+pub(crate) fn compare<A: Columns, B: Columns, F: FnOnce(A) -> Result<B, NumberFault>>(
+    words: &mut Words,
+    convert: F,
+) -> Option<Result<(), Found>>
+    requires { F.IsAlwaysCallable convert }
+{
+    let given = A::parse(words)?;
     if words.next()? != "=" {
         return None;
     }
-    let expected = parse_expected(&mut words, outputs)?;
+    let expected = parse_expected::<B>(words)?;
     if words.next().is_some() {
         return None;
     }
-    Some(Row {
-        conversion,
-        given,
-        expected,
+    let found = convert(given).map(B::patterns).map_err(Refused::from);
+    Some(if found == expected {
+        Ok(())
+    } else {
+        Err(Found(found))
     })
 }

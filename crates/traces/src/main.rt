@@ -15,13 +15,9 @@ use oklab::{
 use std::io;
 use std::io::{BufWriter, Write};
 
-// The refusal of an answer, if it is one.
-fn refusal_of<T: Drop>(answer: Result<T, NumberFault>) -> Option<NumberFault> {
-    match answer {
-        Ok(_) => None,
-        Err(fault) => Some(fault),
-    }
-}
+type Exact = Traced<Fraction>;
+
+type Float = Traced<f32>;
 
 fn report<W: Write>(out: &mut W, call: &str, fault: Option<NumberFault>) -> io::Result<()> {
     let Some(fault) = fault else {
@@ -37,40 +33,16 @@ fn ratio<N: Number>(numerator: i64, denominator: i64) -> N {
     N::whole(numerator).div(N::whole(denominator))
 }
 
-fn oklab<N: Number>(l: N, a: N, b: N) -> Oklab<N> {
-    Oklab { l, a, b }
-}
-
-// The gamut of sRGB takes cubes of ten-digit decimals: over fractions its cusp is lost.
-fn over_srgb<N: Number>() -> Option<NumberFault> {
-    let color = Okhsl {
-        hue: expansion(),
-        saturation: ratio(2, 5),
-        lightness: ratio::<N>(1, 2),
-    };
-    refusal_of(okhsl_to_oklab(color, &mut Srgb::new()))
-}
-
-fn grey<N: Number>() -> Option<NumberFault> {
-    let zero = N::whole(0);
-    refusal_of(oklab_to_okhsl(oklab(ratio(1, 2), zero, zero), &mut Srgb::new()))
-}
-
-fn diagonal<N: Number>() -> Option<NumberFault> {
-    refusal_of(oklab_to_okhsl(halves::<N>(), &mut Srgb::new()))
-}
-
-fn overflow<N: Number>() -> Option<NumberFault> {
-    let mut large: N = N::whole(3);
-    for _ in 0..7 {
-        large = large.mul(N::whole(1 << 18));
-    }
-    refusal_of(oklab_to_okhsl(oklab(ratio(1, 2), large, large), &mut Srgb::new()))
+fn half<N: Number>() -> N {
+    ratio(1, 2)
 }
 
 fn halves<N: Number>() -> Oklab<N> {
-    let half = ratio(1, 2);
-    oklab(half, half, half)
+    Oklab {
+        l: half(),
+        a: half(),
+        b: half(),
+    }
 }
 
 fn expansion<N: Number>() -> Direction<N> {
@@ -80,73 +52,35 @@ fn expansion<N: Number>() -> Direction<N> {
     }
 }
 
-fn to_xyz<N: Number>() -> Option<NumberFault> {
-    refusal_of(oklab_to_xyz(halves::<N>()))
-}
-
-fn from_xyz<N: Number>() -> Option<NumberFault> {
-    let half: N = ratio(1, 2);
-    refusal_of(xyz_to_oklab(Xyz {
-        x: half,
-        y: half,
-        z: half,
-    }))
-}
-
-fn to_rgb<N: Number>() -> Option<NumberFault> {
-    refusal_of(oklab_to_linear_srgb(halves::<N>()))
-}
-
-fn from_rgb<N: Number>() -> Option<NumberFault> {
-    let half: N = ratio(1, 2);
-    refusal_of(linear_srgb_to_oklab(LinSrgb {
-        red: half,
-        green: half,
-        blue: half,
-    }))
-}
-
-fn to_okhsv<N: Number>() -> Option<NumberFault> {
-    refusal_of(oklab_to_okhsv(halves::<N>()))
-}
-
-fn from_okhsv<N: Number>() -> Option<NumberFault> {
-    let half: N = ratio(1, 2);
-    refusal_of(okhsv_to_oklab(Okhsv {
+// The gamut of sRGB takes cubes of ten-digit decimals: over fractions its cusp is lost.
+fn over_srgb<N: Number>() -> Option<NumberFault> {
+    let color = Okhsl {
         hue: expansion(),
-        saturation: half,
-        value: half,
-    }))
+        saturation: ratio(2, 5),
+        lightness: half::<N>(),
+    };
+    okhsl_to_oklab(color, &mut Srgb::new()).err()
 }
 
-// Small numbers whose product has a denominator that is too large.
-fn to_okhwb<N: Number>() -> Option<NumberFault> {
-    let small: N = ratio(1, 1 << 40);
-    refusal_of(okhsv_to_okhwb(Okhsv {
-        hue: expansion(),
-        saturation: small,
-        value: small,
-    }))
+fn to_okhsl<N: Number>(color: Oklab<N>) -> Option<NumberFault> {
+    oklab_to_okhsl(color, &mut Srgb::new()).err()
 }
 
-fn from_okhwb<N: Number>() -> Option<NumberFault> {
-    refusal_of(okhwb_to_okhsv(Okhwb {
-        hue: expansion::<N>(),
-        whiteness: ratio(1, 1 << 40),
-        blackness: ratio(1, 3486784401),
-    }))
+fn grey<N: Number>() -> Oklab<N> {
+    Oklab {
+        l: half(),
+        a: N::whole(0),
+        b: N::whole(0),
+    }
 }
 
-fn to_oklch<N: Number>() -> Option<NumberFault> {
-    refusal_of(oklab_to_oklch(halves::<N>()))
-}
-
-fn from_oklch<N: Number>() -> Option<NumberFault> {
-    refusal_of(oklch_to_oklab(Oklch {
-        l: ratio::<N>(1, 2),
-        chroma: ratio(1, 2305843009213693951),
-        hue: expansion(),
-    }))
+fn overflow<N: Number>() -> Oklab<N> {
+    let large = (0..7).fold(N::whole(3), |large, _| large.mul(N::whole(1 << 18)));
+    Oklab {
+        l: half(),
+        a: large,
+        b: large,
+    }
 }
 
 fn quotient<N: Number>() -> Option<NumberFault> {
@@ -154,107 +88,89 @@ fn quotient<N: Number>() -> Option<NumberFault> {
     Some(NumberFault::Lost(lost.trace()))
 }
 
-fn report_others<W: Write>(out: &mut W) -> io::Result<()> {
-    report(
-        out,
-        "from XYZ, traced fractions",
-        from_xyz::<Traced<Fraction>>(),
-    )?;
-    report(
-        out,
-        "to linear sRGB, traced fractions",
-        to_rgb::<Traced<Fraction>>(),
-    )?;
-    report(
-        out,
-        "from linear sRGB, traced fractions",
-        from_rgb::<Traced<Fraction>>(),
-    )?;
-    report(
-        out,
-        "to Okhsv, traced fractions",
-        to_okhsv::<Traced<Fraction>>(),
-    )?;
-    report(
-        out,
-        "from Okhsv, traced fractions",
-        from_okhsv::<Traced<Fraction>>(),
-    )?;
-    report(
-        out,
-        "to Okhwb, traced fractions",
-        to_okhwb::<Traced<Fraction>>(),
-    )?;
-    report(
-        out,
-        "from Okhwb, traced fractions",
-        from_okhwb::<Traced<Fraction>>(),
-    )?;
-    report(
-        out,
-        "to Oklch, traced fractions",
-        to_oklch::<Traced<Fraction>>(),
-    )?;
-    report(
-        out,
-        "from Oklch, traced fractions",
-        from_oklch::<Traced<Fraction>>(),
-    )?;
+// Small numbers whose product has a denominator that is too large.
+fn small<N: Number>() -> Okhsv<N> {
+    Okhsv {
+        hue: expansion(),
+        saturation: ratio(1, 1 << 40),
+        value: ratio(1, 1 << 40),
+    }
+}
+
+fn from_xyz<N: Number>() -> Option<NumberFault> {
+    xyz_to_oklab(Xyz::<N> {
+        x: half(),
+        y: half(),
+        z: half(),
+    })
+    .err()
+}
+
+fn from_rgb<N: Number>() -> Option<NumberFault> {
+    linear_srgb_to_oklab(LinSrgb::<N> {
+        red: half(),
+        green: half(),
+        blue: half(),
+    })
+    .err()
+}
+
+fn from_okhsv<N: Number>() -> Option<NumberFault> {
+    okhsv_to_oklab(Okhsv::<N> {
+        hue: expansion(),
+        saturation: half(),
+        value: half(),
+    })
+    .err()
+}
+
+fn from_okhwb<N: Number>() -> Option<NumberFault> {
+    okhwb_to_okhsv(Okhwb::<N> {
+        hue: expansion(),
+        whiteness: ratio(1, 1 << 40),
+        blackness: ratio(1, 3486784401),
+    })
+    .err()
+}
+
+fn from_oklch<N: Number>() -> Option<NumberFault> {
+    oklch_to_oklab(Oklch::<N> {
+        l: half(),
+        chroma: ratio(1, 2305843009213693951),
+        hue: expansion(),
+    })
+    .err()
+}
+
+fn report_all<W: Write>(out: &mut W, calls: &[(&str, Option<NumberFault>)]) -> io::Result<()> {
+    for (call, fault) in calls {
+        report(out, call, *fault)?;
+    }
     Ok(())
 }
 
 fn main(rt: HostRuntime) -> io::Result<()> {
     let mut out = BufWriter::new(rt.alloc(), rt.stdout())?;
-    report(
-        &mut out,
-        "Okhsl over sRGB, traced fractions",
-        over_srgb::<Traced<Fraction>>(),
-    )?;
-    report(
-        &mut out,
-        "Okhsl over sRGB, fractions",
-        over_srgb::<Fraction>(),
-    )?;
-    report(
-        &mut out,
-        "Okhsl over sRGB, traced f32",
-        over_srgb::<Traced<f32>>(),
-    )?;
-    report(
-        &mut out,
-        "a grey to Okhsl, traced fractions",
-        grey::<Traced<Fraction>>(),
-    )?;
-    report(
-        &mut out,
-        "a grey to Okhsl, traced f32",
-        grey::<Traced<f32>>(),
-    )?;
-    report(
-        &mut out,
-        "a diagonal to Okhsl, traced fractions",
-        diagonal::<Traced<Fraction>>(),
-    )?;
-    report(
-        &mut out,
-        "an overflow to Okhsl, traced f32",
-        overflow::<Traced<f32>>(),
-    )?;
-    report(
-        &mut out,
-        "to XYZ, traced fractions",
-        to_xyz::<Traced<Fraction>>(),
-    )?;
-    report(
-        &mut out,
-        "a quotient by 0, traced fractions",
-        quotient::<Traced<Fraction>>(),
-    )?;
-    report(
-        &mut out,
-        "a quotient by 0, twice traced f32",
-        quotient::<Traced<Traced<f32>>>(),
-    )?;
-    report_others(&mut out)?;
+    report_all(&mut out, &[
+        ("Okhsl over sRGB, traced fractions", over_srgb::<Exact>()),
+        ("Okhsl over sRGB, fractions", over_srgb::<Fraction>()),
+        ("Okhsl over sRGB, traced f32", over_srgb::<Float>()),
+        ("a grey to Okhsl, traced fractions", to_okhsl(grey::<Exact>())),
+        ("a grey to Okhsl, traced f32", to_okhsl(grey::<Float>())),
+        ("a diagonal to Okhsl, traced fractions", to_okhsl(halves::<Exact>())),
+        ("an overflow to Okhsl, traced f32", to_okhsl(overflow::<Float>())),
+        ("to XYZ, traced fractions", oklab_to_xyz(halves::<Exact>()).err()),
+        ("a quotient by 0, traced fractions", quotient::<Exact>()),
+        ("a quotient by 0, twice traced f32", quotient::<Traced<Float>>()),
+        ("from XYZ, traced fractions", from_xyz::<Exact>()),
+        ("to linear sRGB, traced fractions", oklab_to_linear_srgb(halves::<Exact>()).err()),
+        ("from linear sRGB, traced fractions", from_rgb::<Exact>()),
+        ("to Okhsv, traced fractions", oklab_to_okhsv(halves::<Exact>()).err()),
+        ("from Okhsv, traced fractions", from_okhsv::<Exact>()),
+        ("to Okhwb, traced fractions", okhsv_to_okhwb(small::<Exact>()).err()),
+        ("from Okhwb, traced fractions", from_okhwb::<Exact>()),
+        ("to Oklch, traced fractions", oklab_to_oklch(halves::<Exact>()).err()),
+        ("from Oklch, traced fractions", from_oklch::<Exact>()),
+    ])?;
     out.flush()
 }
