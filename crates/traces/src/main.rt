@@ -151,26 +151,56 @@ fn report_all<W: Write>(out: &mut W, calls: &[(&str, Option<NumberFault>)]) -> i
 
 fn main(rt: HostRuntime) -> io::Result<()> {
     let mut out = BufWriter::new(rt.alloc(), rt.stdout())?;
-    report_all(&mut out, &[
-        ("Okhsl over sRGB, traced fractions", over_srgb::<Exact>()),
-        ("Okhsl over sRGB, fractions", over_srgb::<Fraction>()),
-        ("Okhsl over sRGB, traced f32", over_srgb::<Float>()),
-        ("a grey to Okhsl, traced fractions", to_okhsl(grey::<Exact>())),
-        ("a grey to Okhsl, traced f32", to_okhsl(grey::<Float>())),
-        ("a diagonal to Okhsl, traced fractions", to_okhsl(halves::<Exact>())),
-        ("an overflow to Okhsl, traced f32", to_okhsl(overflow::<Float>())),
-        ("to XYZ, traced fractions", oklab_to_xyz(halves::<Exact>()).err()),
-        ("a quotient by 0, traced fractions", quotient::<Exact>()),
-        ("a quotient by 0, twice traced f32", quotient::<Traced<Float>>()),
-        ("from XYZ, traced fractions", from_xyz::<Exact>()),
-        ("to linear sRGB, traced fractions", oklab_to_linear_srgb(halves::<Exact>()).err()),
-        ("from linear sRGB, traced fractions", from_rgb::<Exact>()),
-        ("to Okhsv, traced fractions", oklab_to_okhsv(halves::<Exact>()).err()),
-        ("from Okhsv, traced fractions", from_okhsv::<Exact>()),
-        ("to Okhwb, traced fractions", okhsv_to_okhwb(small::<Exact>()).err()),
-        ("from Okhwb, traced fractions", from_okhwb::<Exact>()),
-        ("to Oklch, traced fractions", oklab_to_oklch(halves::<Exact>()).err()),
-        ("from Oklch, traced fractions", from_oklch::<Exact>()),
-    ])?;
+    report_all(
+        &mut out,
+        &[
+            ("Okhsl over sRGB, traced fractions", over_srgb::<Exact>()),
+            ("Okhsl over sRGB, fractions", over_srgb::<Fraction>()),
+            ("Okhsl over sRGB, traced f32", over_srgb::<Float>()),
+            (
+                "a grey to Okhsl, traced fractions",
+                to_okhsl(grey::<Exact>()),
+            ),
+            ("a grey to Okhsl, traced f32", to_okhsl(grey::<Float>())),
+            (
+                "a diagonal to Okhsl, traced fractions",
+                to_okhsl(halves::<Exact>()),
+            ),
+            (
+                "an overflow to Okhsl, traced f32",
+                to_okhsl(overflow::<Float>()),
+            ),
+            (
+                "to XYZ, traced fractions",
+                oklab_to_xyz(halves::<Exact>()).err(),
+            ),
+            ("a quotient by 0, traced fractions", quotient::<Exact>()),
+            (
+                "a quotient by 0, twice traced f32",
+                quotient::<Traced<Float>>(),
+            ),
+            ("from XYZ, traced fractions", from_xyz::<Exact>()),
+            (
+                "to linear sRGB, traced fractions",
+                oklab_to_linear_srgb(halves::<Exact>()).err(),
+            ),
+            ("from linear sRGB, traced fractions", from_rgb::<Exact>()),
+            (
+                "to Okhsv, traced fractions",
+                oklab_to_okhsv(halves::<Exact>()).err(),
+            ),
+            ("from Okhsv, traced fractions", from_okhsv::<Exact>()),
+            (
+                "to Okhwb, traced fractions",
+                okhsv_to_okhwb(small::<Exact>()).err(),
+            ),
+            ("from Okhwb, traced fractions", from_okhwb::<Exact>()),
+            (
+                "to Oklch, traced fractions",
+                oklab_to_oklch(halves::<Exact>()).err(),
+            ),
+            ("from Oklch, traced fractions", from_oklch::<Exact>()),
+        ],
+    )?;
     out.flush()
 }
