@@ -16,5 +16,5 @@ unfolding drawn
 returns-clause-text c =
     let x = c.args.reading in
     let same : meant_turn (map_oklab meaning_of) c.draw.result ≡ drawn x =
-    c.draw.ensures.meaning tt ∙ ap (λ g. run g (draw_steps arithmetic untold x)) c.args.self.now.as_listed in
+    c.draw.ensures.meaning ∙ ap (λ g. run g (draw_steps arithmetic untold x)) c.args.self.now.as_listed in
     grind (arith, common_steps, ap color_text same)
