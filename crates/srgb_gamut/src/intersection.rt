@@ -171,9 +171,9 @@ fn stride<N: Number>(j: Jet<N>) -> N
 fn shortest<N: Number>(c: Lms<Jet<N>>) -> N
     ensures { result ≡ shortest_of N.ops c.l c.m c.s }
 {
-    let red = stride(channel(c, |x| red_sum(x)));
-    let green = stride(channel(c, |x| green_sum(x)));
-    let blue = stride(channel(c, |x| blue_sum(x)));
+    let red = stride(channel(c, red_sum));
+    let green = stride(channel(c, green_sum));
+    let blue = stride(channel(c, blue_sum));
     red.min(green.min(blue))
 }
 
