@@ -90,7 +90,8 @@ impl<N: Number> Polar<N> {
         N::whole(1).div(brightest(rgb)).cbrt()
     }
 
-    // The colour with the toe undone, scaled by a factor.
+    // The colour with the toe undone, scaled by a factor. It is not built on `untoed`: palette multiplies in another order here,
+    // and a float's answer depends on it.
     fn scaled(self, factor: N) -> Oklab<N>
         ensures { result ≡ scaled_by N.ops self.hue self.lightness self.chroma (toe_inv N.ops self.lightness) factor }
     {
