@@ -62,7 +62,7 @@ impl<N: Number, B: Boundary<N>> Margin<N, B> {
     }
 }
 
-// The three numbers times a factor.
+// The three numbers times a factor. Field by field: a public `map` would have to require that its function may be called.
 fn shrink<N: Number>(v: ChromaValues<N>, factor: N) -> ChromaValues<N>
     ensures { result ≡ times N.ops v factor }
 {

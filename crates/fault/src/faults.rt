@@ -14,6 +14,7 @@ pub enum NumberFault {
     /// The direction is not accepted.
     Direction,
     /// The boundary refuses the query.
+    // A trace in the form that every kind of number gives it: a pair of small numbers.
     Boundary(Option<(u8, u8)>),
     /// A number of the answer is spoiled.
     Lost(Option<(u8, u8)>),

@@ -13,7 +13,7 @@ pub struct Lms<N> {
 }
 
 impl<N: Copy> Lms<N> {
-    // A function at each number.
+    // A function at each number. Each record has a `map` of its own: no trait stands for a record over numbers of another type.
     pub(crate) fn map<F: Fn(N) -> N>(self, f: F) -> Lms<N>
         requires { F.IsAlwaysCallable f }
         ensures l { F.post f self.l result.l }

@@ -21,7 +21,7 @@ pub struct Mat3<N> {
 }
 
 impl<N: Copy> Vec3<N> {
-    // A function at each number.
+    // A function at each number, as in `Lms`.
     pub(crate) fn map<M, F: Fn(N) -> M>(self, f: F) -> Vec3<M>
         requires { F.IsAlwaysCallable f }
         ensures x { F.post f self.x result.x }

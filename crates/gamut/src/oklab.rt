@@ -75,7 +75,7 @@ pub struct Oklab<N> {
 }
 
 impl<N: Copy> Oklab<N> {
-    // A function at each number.
+    // A function at each number, as in `Lms`.
     fn map<M, F: Fn(N) -> M>(self, f: F) -> Oklab<M>
         requires { F.IsAlwaysCallable f }
         ensures l { F.post f self.l result.l }

@@ -13,7 +13,7 @@ pub struct LinSrgb<N> {
 }
 
 impl<N: Copy> LinSrgb<N> {
-    // A function at each number.
+    // A function at each number, as in `Lms`.
     pub(crate) fn map<F: Fn(N) -> N>(self, f: F) -> LinSrgb<N>
         requires { F.IsAlwaysCallable f }
         ensures red { F.post f self.red result.red }

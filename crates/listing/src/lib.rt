@@ -47,7 +47,7 @@ fn put_answer(text: &mut String, answer: Result<Oklab<Fraction>, TurnFault>) -> 
     }
 }
 
-// Appends how a line starts.
+// Appends how a line starts. The valve is the number that the reading has, in range or not.
 fn put_start(text: &mut String, number: u32, i: usize, valve: u8) -> fmt::Result
     ensures { OnOk result (string_bytes text.new ≡ string_bytes text.old ++ start_of number i valve) }
 {

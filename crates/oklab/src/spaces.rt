@@ -40,6 +40,8 @@ impl<N: Number> Color<N> for Xyz<N> {
     }
 }
 
+// Each of the four is two lines over what they share: its types are its own, and so are its promises.
+
 /// Converts Oklab to linear sRGB. It is refused where a number is out of range or spoiled, or a number of the answer is
 /// spoiled, in this order.
 pub fn oklab_to_linear_srgb<N: Number>(color: Oklab<N>) -> Result<LinSrgb<N>, NumberFault>

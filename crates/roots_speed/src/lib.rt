@@ -46,6 +46,8 @@ fn sum_of<F: Fn(u64) -> u64>(count: u32, result_at: F) -> u64
     sum
 }
 
+// A C function each, of the same shape: C calls them by name.
+
 #[unsafe(no_mangle)]
 pub extern "C" fn rattle_nothing(count: u32) -> u64 {
     sum_of(count, |s| bits(input(s)))

@@ -79,6 +79,7 @@ impl<N: Number> Turn<N> for Panel {
     }
 }
 
+// Its twin is the page's `read_row`: `fill` is what they share, and each promises its own.
 /// Draws a row of readings: each colour is that of its reading, up to the first reading that is refused. Rows of
 /// different length are refused.
 pub fn draw_row<N: Number, B: Boundary<N>>(

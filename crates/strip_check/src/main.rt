@@ -43,16 +43,19 @@ fn stack() -> Result<Stack, NumberFault> {
     Ok(outer)
 }
 
-// Whether an indication has its reading's opening and temperature, and its valve, or 0 where the opening is 0.
-fn is_home(reading: Reading, seen: Indication) -> bool {
-    let valve = if reading.opening == 0 {
-        0
-    } else {
-        reading.valve
-    };
-    seen.opening == reading.opening
-        && seen.temperature == reading.temperature
-        && seen.valve == valve
+// What a reading that comes home indicates: its opening and temperature, and its valve, or 0 where the opening is 0.
+fn home_of(reading: Reading) -> Indication {
+    let Reading {
+        valve,
+        temperature,
+        opening,
+        ..
+    } = reading;
+    Indication {
+        valve: if opening == 0 { 0 } else { valve },
+        temperature,
+        opening,
+    }
 }
 
 // How many of the readings come home.
@@ -60,7 +63,7 @@ fn count_home(readings: &[Reading], seen: &[Indication]) -> usize {
     readings
         .iter()
         .zip(seen)
-        .filter(|(reading, seen)| is_home(**reading, **seen))
+        .filter(|(reading, seen)| home_of(**reading) == **seen)
         .count()
 }
 
@@ -140,7 +143,7 @@ impl<W: Write> Site<W> {
         )
     }
 
-    // Checks the readings of block after block, up to the end of the input.
+    // Checks the readings of block after block, up to the end of the input; the range is what ends the loop where no input does.
     fn check_blocks<R: Read>(&mut self, input: &mut R) -> io::Result<()> {
         let mut block = [0u8; SIZE];
         for _ in 0..u64::MAX {

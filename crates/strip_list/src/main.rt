@@ -6,7 +6,7 @@ use listing::put_block;
 use std::io;
 use std::io::{BufReader, BufWriter, Read, Write};
 
-// Lists block after block, one at a time in memory, up to the end of the input.
+// Lists block after block, one at a time in memory, up to the end of the input; the range is what ends the loop where no input does.
 fn list<R: Read, W: Write>(input: &mut R, out: &mut W, text: &mut String) -> io::Result<()> {
     let mut block = [0u8; SIZE];
     for place in 0..u64::MAX {

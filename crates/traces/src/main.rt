@@ -97,6 +97,8 @@ fn small<N: Number>() -> Okhsv<N> {
     }
 }
 
+// Each builds a colour of its own type for the conversion of that type.
+
 fn from_xyz<N: Number>() -> Option<NumberFault> {
     xyz_to_oklab(Xyz::<N> {
         x: half(),
