@@ -150,12 +150,12 @@ fn accepted_direction(a: f32, b: f32) -> bool
     (SHORTEST..=LONGEST).contains(&(a * a + b * b))
 }
 
-// The first where it is preferred or the second is not a number, else the second. The library's `min` and `max` leave open
-// which of two zeros they answer.
-fn number_of(first: f32, second: f32, preferred: bool) -> f32
-    ensures { result ≡ (if preferred || is_nan second then first else second) }
+// The first where it wins or the second is not a number, else the second. The library's `min` and `max` leave open which
+// of two zeros they answer.
+fn one_of(first: f32, second: f32, first_wins: bool) -> f32
+    ensures { result ≡ (if first_wins || is_nan second then first else second) }
 {
-    if preferred | second.is_nan() {
+    if first_wins | second.is_nan() {
         first
     } else {
         second
@@ -212,11 +212,11 @@ impl Number for f32 {
     }
 
     fn min(self, other: f32) -> f32 {
-        number_of(self, other, self <= other)
+        one_of(self, other, self <= other)
     }
 
     fn max(self, other: f32) -> f32 {
-        number_of(self, other, other <= self)
+        one_of(self, other, other <= self)
     }
 
     fn sqrt(self) -> f32 {

@@ -98,7 +98,7 @@ pub trait Number: Copy {
         ensures { result ≡ ops.nearest self };
 
     /// Cause and stage of the first fault, where the kind keeps one.
-    // The form is fixed: a pair of small numbers, for every kind.
+    // The form is fixed: two small numbers.
     fn trace(self) -> Option<(u8, u8)>
         ensures { result ≡ traced self };
 

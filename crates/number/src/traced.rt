@@ -37,7 +37,7 @@ impl<N: Number> Traced<N> {
     }
 
     // The result of an operation on one value, with the fault of its operand.
-    fn followed<F: FnOnce(N) -> N>(self, operation: F, cause: Cause) -> Traced<N>
+    fn unary<F: FnOnce(N) -> N>(self, operation: F, cause: Cause) -> Traced<N>
         requires { F.pre operation self.value }
         ensures { (value : N) × F.post operation self.value value × (result ≡ result_of N.ops value self.fault None cause) }
     {
@@ -45,7 +45,7 @@ impl<N: Number> Traced<N> {
     }
 
     // The result of an operation on two values, with the faults of both operands.
-    fn joined<F: FnOnce(N, N) -> N>(self, other: Traced<N>, operation: F, cause: Cause) -> Traced<N>
+    fn binary<F: FnOnce(N, N) -> N>(self, other: Traced<N>, operation: F, cause: Cause) -> Traced<N>
         requires { F.pre operation self.value other.value }
         ensures { (value : N) × F.post operation self.value other.value value × (result ≡ result_of N.ops value self.fault other.fault cause) }
     {
@@ -116,15 +116,15 @@ impl<N: Number> Number for Traced<N> {
     ghost forms = { λ p. ⊎_elim (λ e. inl (λ i. record { value = e i; fault = p.fault })) inr (N.Number.forms p.value) };
 
     fn add(self, other: Traced<N>) -> Traced<N> {
-        self.joined(other, N::add, Cause::Other)
+        self.binary(other, N::add, Cause::Other)
     }
 
     fn sub(self, other: Traced<N>) -> Traced<N> {
-        self.joined(other, N::sub, Cause::Other)
+        self.binary(other, N::sub, Cause::Other)
     }
 
     fn mul(self, other: Traced<N>) -> Traced<N> {
-        self.joined(other, N::mul, Cause::Other)
+        self.binary(other, N::mul, Cause::Other)
     }
 
     fn div(self, other: Traced<N>) -> Traced<N> {
@@ -133,27 +133,27 @@ impl<N: Number> Number for Traced<N> {
         } else {
             Cause::Other
         };
-        self.joined(other, N::div, cause)
+        self.binary(other, N::div, cause)
     }
 
     fn neg(self) -> Traced<N> {
-        self.followed(N::neg, Cause::Other)
+        self.unary(N::neg, Cause::Other)
     }
 
     fn min(self, other: Traced<N>) -> Traced<N> {
-        self.joined(other, N::min, Cause::Other)
+        self.binary(other, N::min, Cause::Other)
     }
 
     fn max(self, other: Traced<N>) -> Traced<N> {
-        self.joined(other, N::max, Cause::Other)
+        self.binary(other, N::max, Cause::Other)
     }
 
     fn sqrt(self) -> Traced<N> {
-        self.followed(N::sqrt, Cause::Root)
+        self.unary(N::sqrt, Cause::Root)
     }
 
     fn cbrt(self) -> Traced<N> {
-        self.followed(N::cbrt, Cause::Root)
+        self.unary(N::cbrt, Cause::Root)
     }
 
     fn whole(n: i64) -> Traced<N> {
