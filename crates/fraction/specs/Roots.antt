@@ -7,6 +7,7 @@ use Rattle.std.proofs.Math.Nat as N
 use Rattle.std.specs.Float.Ieee.{size}
 use Rattle.std.specs.Float.Ieee.Digits.{size-lt}
 use Rattle.std.specs.Int.Signed.{non_neg}
+use Rattle.std.proofs.lemmas.Nat.{mul-pow}
 use Rattle.std.proofs.lemmas.Bool.{leb-true, leb-false, eqb-true, eq-eqb, and_parts, and_from, cond-true, cases_order}
 use Rattle.rational.specs.Gcd.{gcd}
 use Rattle.rational.specs.Rational.{Rational, num, den, ratio_of, signed, over, exact}
@@ -32,13 +33,6 @@ square s = N.pow-suc s 1 ∙ ap (λ (x : ℕ). x * s) (N.pow-suc s 0 ∙ ap (λ 
 pub cube : (s : ℕ) → s ^ 3 ≡ s * s * s
 cube s = N.pow-suc s 2 ∙ ap (λ (x : ℕ). x * s) (square s)
 
-power_of_product : (a b d : ℕ) → (a * b) ^ d ≡ a ^ d * b ^ d
-power_of_product a b zero = N.pow-zero (a * b) ∙ sym (λ i. N.pow-zero a i * N.pow-zero b i)
-power_of_product a b (suc d) = N.pow-suc (a * b) d ∙ ap (λ (x : ℕ). x * (a * b)) (power_of_product a b d) ∙ regroup (a ^ d) (b ^ d) ∙ sym (λ i. N.pow-suc a d i * N.pow-suc b d i)
-  where
-    regroup : (x y : ℕ) → x * y * (a * b) ≡ x * a * (y * b)
-    regroup x y = omega arith
-
 zero_power : (d : ℕ) → 0 < d → 0 ^ d ≡ 0
 zero_power zero h = absurd (omega arith)
 zero_power (suc d) h = N.pow-suc 0 d ∙ N.mul-zero (0 ^ d)
@@ -46,7 +40,7 @@ zero_power (suc d) h = N.pow-suc 0 d ∙ N.mul-zero (0 ^ d)
 -- ---- the whole part of a root
 
 twice : (r d : ℕ) → (2 * r) ^ d ≡ r ^ d * 2 ^ d
-twice r d = power_of_product 2 r d ∙ N.mul_comm (2 ^ d) (r ^ d)
+twice r d = mul-pow 2 r d ∙ N.mul_comm (2 ^ d) (r ^ d)
 
 digit : (d r n : ℕ) (b : Bool) → IsWholeRoot d r (n / 2 ^ d) → nat_le ((2 * r + 1) ^ d) n ≡ b → IsWholeRoot d (cond b (2 * r + 1) (2 * r)) n
 digit d r n true h e =

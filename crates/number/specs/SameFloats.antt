@@ -1,6 +1,7 @@
 -- The test `same_float` decides equality of floats, and so does a comparison of their bits.
-use Rattle.std.specs.Prelude.{◌≡◌, Bool, true, false, ◌&&◌, T, ℤ, pos, negsuc, Decides, ◌==◌, from_bits, to_bits, refl, Float}
+use Rattle.std.specs.Prelude.{◌≡◌, ◌&&◌, T, ℤ, pos, negsuc, Decides, ◌==◌, from_bits, to_bits, refl, Float}
 use Rattle.std.specs.Bool.{beq}
+use Rattle.std.specs.Cmp.{booleans_Decides}
 use Rattle.std.proofs.Common.{sym, ap, ◌∙◌}
 use Rattle.std.specs.Float.{nan, inf, fin, Format}
 use Rattle.std.specs.Float.Ieee.{fits}
@@ -8,12 +9,6 @@ use Rattle.std.specs.Float.Ieee.Bits.{of_bits-to_bits}
 use Rattle.std.proofs.lemmas.Bool.Decides.{same_from_decides, Decides-eqb, Decides-and, Decides-like}
 use Rattle.number.specs.Floats.{same_int, same_float}
 use Rattle.number.specs.Meaning.{Meaning, float}
-
-decides_sign : (s t : Bool) → Decides (beq s t) (s ≡ t)
-decides_sign true true = (λ _. refl, λ _. refl)
-decides_sign true false = (λ e. sym e, λ e. sym e)
-decides_sign false true = (λ e. e, λ e. e)
-decides_sign false false = (λ _. refl, λ _. refl)
 
 pub decides_int : (x y : ℤ) → Decides (same_int x y) (x ≡ y)
 decides_int (pos m) (pos n) = Decides-like (m == n) (ap pos) (λ e. cc) (Decides-eqb m n)
@@ -27,13 +22,13 @@ decides_float nan nan = (λ _. refl, λ _. refl)
 decides_float nan (inf t) = (λ e. cc, λ e. cc)
 decides_float nan (fin t n d) = (λ e. cc, λ e. cc)
 decides_float (inf s) nan = (λ e. cc, λ e. cc)
-decides_float (inf s) (inf t) = Decides-like (beq s t) (ap inf) (λ e. cc) (decides_sign s t)
+decides_float (inf s) (inf t) = Decides-like (beq s t) (ap inf) (λ e. cc) (booleans_Decides s t)
 decides_float (inf s) (fin t n d) = (λ e. cc, λ e. cc)
 decides_float (fin s m e) nan = (λ e. cc, λ e. cc)
 decides_float (fin s m e) (inf t) = (λ e. cc, λ e. cc)
 decides_float (fin s m e) (fin t n d) =
     Decides-like (beq s t && (m == n && same_int e d)) (λ h. let a = h.0 in let b = h.1.0 in let c = h.1.1 in cc) (λ h. (cc, (cc, cc)))
-    (Decides-and (beq s t) (m == n && same_int e d) (decides_sign s t) (Decides-and (m == n) (same_int e d) (Decides-eqb m n) (decides_int e d)))
+    (Decides-and (beq s t) (m == n && same_int e d) (booleans_Decides s t) (Decides-and (m == n) (same_int e d) (Decides-eqb m n) (decides_int e d)))
 
 -- floats of a format are equal exactly when their bits are
 pub same_bits : (f : Format) (x y : Float) → T (fits f x) → T (fits f y) → (to_bits f x == to_bits f y) ≡ same_float x y
