@@ -11,6 +11,7 @@ mod order;
 mod plain;
 mod root;
 mod show;
+mod sign;
 
 /// A fraction in lowest terms whose numerator, without its sign, and denominator are at most 2^62 − 1; or a lost one.
 // The form is fixed: three fields that lie in a row as they stand.

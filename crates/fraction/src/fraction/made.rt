@@ -1,6 +1,5 @@
 // Fractions made from their parts, and their parts.
-ghost use Rattle.std.specs.Prelude.{◌≡◌, ◌<◌, ◌≤◌, not, unsigned_abs};
-ghost use Rattle.std.specs.Int.Signed.{non_neg};
+ghost use Rattle.std.specs.Prelude.{◌≡◌, ◌<◌, ◌≤◌};
 ghost use Rattle.rational.specs.Gcd.{gcd};
 ghost use Rattle.rational.specs.Rational.{Rational, exact};
 ghost use Rattle.rational.specs.Parts.{Is};
@@ -105,18 +104,5 @@ impl Fraction {
         ensures { result ≡ self.lost }
     {
         self.lost
-    }
-
-    // The numerator without its sign.
-    pub(super) fn size(self) -> u64
-        ensures { result ≡ unsigned_abs self.numerator }
-    {
-        self.numerator.unsigned_abs()
-    }
-
-    pub(super) fn is_negative(self) -> bool
-        ensures { result ≡ not (non_neg self.numerator) }
-    {
-        self.numerator < 0
     }
 }
