@@ -95,6 +95,7 @@ impl<N: Number, B: Boundary<N>> Boundary<N> for Memo<N, B> {
         v
     }
 
+    // The body of the trait's own `query`, written again for its clause `recalls`.
     /// The same with the rule of refusal.
     // Written out, though the trait's own does the same: only a method of the memo's can promise `recalls`.
     fn query(&mut self, query: &Query<N>) -> Result<ChromaValues<N>, NumberFault>

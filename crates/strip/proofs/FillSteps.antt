@@ -1,6 +1,7 @@
 -- A row that is written entry by entry: a step of the loop, a refusal, and what the row means at the end.
 use Rattle.std.proofs.Common.{◌≡◌, ℕ, zero, suc, ◌+◌, ◌<◌, ◌≤◌, List, [], ◌∷◌, map, length, get_or, take, drop, set, Ok, Err, Result, sym, refl, ap, ◌∙◌, subst, ap₂, add-one, arith, eq-eqb, ne_eqb}
-use Rattle.std.proofs.lemmas.List.{length-map, take_all}
+use Rattle.std.proofs.Math.Nat.{add-zero}
+use Rattle.std.proofs.lemmas.List.{length-map, take_all, drop-drop, get_or-drop}
 use Rattle.fault.specs.Refusals.{placed}
 use Rattle.fault.specs.declared.faults.Placed.{Placed}
 use Rattle.fault.specs.declared.faults.RowFault.{RowFault}
@@ -13,35 +14,18 @@ use Rattle.strip.specs.Rows.{Row, next, filled, row}
 -- What was given its index.
 pub placed_ok : {T : Type 0} (i : ℕ) (x : T) (r : Result T TurnFault) → Ok x ≡ placed i r → r ≡ Ok x
 placed_ok i x (Ok y) e = cc
-placed_ok i x (Err d) e = let z : ◌≡◌ {A = ℕ} 0 1 = cc in absurd (omega arith)
+placed_ok i x (Err d) e = absurd cc
 
 pub placed_err : {T : Type 0} (i : ℕ) (p : Placed) (r : Result T TurnFault) → Err p ≡ placed i r → (r ≡ Err p.fault) × (p.index ≡ i)
-placed_err i p (Ok y) e = let z : ◌≡◌ {A = ℕ} 0 1 = cc in absurd (omega arith)
+placed_err i p (Ok y) e = absurd cc
 placed_err i p (Err d) e = let same : p ≡ record { index = i; fault = d } = cc in (ap (λ (q : Placed). Err q.fault) (sym same), ap (λ (q : Placed). q.index) same)
 
--- Lists that are alike from i on are alike from i + 1 on.
-tail : {C : Type 0} → List C → List C
-tail [] = []
-tail (c ∷ cs) = cs
-
-drop_tail : {C : Type 0} (i : ℕ) (cs : List C) → tail (drop i cs) ≡ drop (suc i) cs
-unfolding tail
-drop_tail zero [] = refl
-drop_tail (suc i) [] = refl
-drop_tail zero (c ∷ cs) = refl
-drop_tail (suc i) (c ∷ cs) = drop_tail i cs
-
+-- Lists that are alike from i on are alike from i + 1 on, and at i.
 pub drop_next : {C : Type 0} (i : ℕ) (cs ds : List C) → drop i cs ≡ drop i ds → drop (i + 1) cs ≡ drop (i + 1) ds
-drop_next i cs ds e = rw add-one (sym (drop_tail i cs) ∙ ap tail e ∙ drop_tail i ds)
-
--- Lists that are alike from i on are alike at i.
-get_d_drop : {C : Type 0} (i : ℕ) (cs : List C) (d : C) → get_or (drop i cs) 0 d ≡ get_or cs i d
-get_d_drop zero cs d = refl
-get_d_drop (suc i) [] d = refl
-get_d_drop (suc i) (c ∷ cs) d = get_d_drop i cs d
+drop_next i cs ds e = sym (drop-drop 1 i cs) ∙ ap (drop 1) e ∙ drop-drop 1 i ds
 
 pub same_at : {C : Type 0} (i : ℕ) (cs ds : List C) (d : C) → drop i cs ≡ drop i ds → get_or cs i d ≡ get_or ds i d
-same_at i cs ds d e = sym (get_d_drop i cs d) ∙ ap (λ l. get_or l 0 d) e ∙ get_d_drop i ds d
+same_at i cs ds d e = rw (add-zero i) at (sym (get_or-drop i cs 0 d) ∙ ap (λ l. get_or l 0 d) e ∙ get_or-drop i ds 0 d)
 
 module _ {R C : Type 0} (F : R → C → Type 0) where
   each_suc : (i : ℕ) (xs : List R) (cs : List C) (x : R) (d : C) → i < length xs → length xs ≡ length cs → x ≡ get_or xs i x → F x d

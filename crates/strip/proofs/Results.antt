@@ -23,19 +23,11 @@ pub decides_false : {P : Type 0} (b : Bool) → Decides b P → ¬ P → b ≡ f
 decides_false b d h = not-true b ((Decides-not b d).1 h)
 
 module _ {A E : Type 0} where
-  abbrev IsErr : Result A E → Type 0
-  IsErr (Ok x) = ⊥
-  IsErr (Err f) = Unit {0}
-
   pub err_no_ok : {f : E} {x : A} → ◌≡◌ {A = Result A E} (Err f) (Ok x) → ⊥
-  err_no_ok e = subst IsErr e tt
-
-  abbrev answer : A → Result A E → A
-  answer d (Ok x) = x
-  answer d (Err f) = d
+  err_no_ok e = cc
 
   pub ok_inj : {x y : A} → ◌≡◌ {A = Result A E} (Ok x) (Ok y) → x ≡ y
-  ok_inj {x} e = ap (answer x) e
+  ok_inj e = cc
 
 pub then_ok : {A B E : Type 0} (r : Result A E) (f : A → Result B E) {y : B} → and_then r f ≡ Ok y → (x : A) × (r ≡ Ok x) × (f x ≡ Ok y)
 then_ok (Ok x) f e = (x, refl, e)
