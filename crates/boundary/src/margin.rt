@@ -1,6 +1,6 @@
 // A margin over a boundary.
 ghost use Rattle.std.specs.Prelude.{◌≡◌, true, IfOk};
-ghost use Rattle.std.proofs.Common.{ap, rules};
+ghost use Rattle.std.proofs.Common.{ap};
 ghost use Rattle.gamut.specs.declared.chroma.ChromaValues.{ChromaValues as Values};
 ghost use Rattle.boundary.specs.Query.{map_query};
 ghost use Rattle.boundary.specs.Model.{with_factor, is_factor, times, Stays};

@@ -1,11 +1,10 @@
 // The page: it reads valve, temperature and opening off colours.
-ghost use Rattle.std.specs.Prelude.{◌≡◌, ◌<◌, [], ◌∷◌, map};
+ghost use Rattle.std.specs.Prelude.{◌≡◌, map};
 ghost use Rattle.boundary.specs.Model.{Stays};
 ghost use Rattle.boundary.specs.Rule.{untold};
 ghost use Rattle.gamut.specs.Maps.{map_oklab};
 ghost use Rattle.gamut.specs.declared.oklab.Oklab.{Oklab as OklabOf};
 ghost use Rattle.number.specs.Meaning.{Meaning};
-ghost use Rattle.oklab.specs.Checks.{settled};
 ghost use Rattle.oklab.specs.Steps.{Follows, run};
 ghost use Rattle.strip.specs.Alike.{meant_turn, ending};
 ghost use Rattle.strip.specs.Entries.{seen, read_entry};

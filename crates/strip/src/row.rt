@@ -1,5 +1,5 @@
 // One row written from another, entry by entry, over a boundary.
-ghost use Rattle.std.specs.Prelude.{◌≡◌, ◌<◌, map, length, Result as ResultOf, slice_index_or, slice_set};
+ghost use Rattle.std.specs.Prelude.{◌≡◌, map, Result as ResultOf};
 ghost use Rattle.fault.specs.declared.faults.TurnFault.{TurnFault as TurnFaultOf};
 ghost use Rattle.number.specs.Meaning.{Meaning};
 ghost use Rattle.boundary.specs.Model.{Stays};

@@ -75,10 +75,10 @@ fn make<N: Number, B: Boundary<N>>(boundary: &mut B, call: &mut Call<N::Plain>)
 {
     match call {
         Call::Draw(c) => {
-            c.end = draw_row(boundary, c.readings.as_slice(), c.colors.as_mut_slice());
+            c.end = draw_row(boundary, &c.readings, &mut c.colors);
         }
         Call::Read(c) => {
-            c.end = read_row(boundary, c.colors.as_slice(), c.indications.as_mut_slice());
+            c.end = read_row(boundary, &c.colors, &mut c.indications);
         }
         Call::Ask(c) => {
             c.answer = ask(boundary, c.query);

@@ -9,9 +9,9 @@ returns-in-Draw-clause-value g c =
     let n = g.N.Number in
     let d = c.in-Draw.c in
     let answers = Answering n.means (g.B.Boundary.meaning c.args.boundary.now) (draw_entry n.ops n.traced n.plain) in
-    let back = with_items_is d.colors c.draw_row-c.new.colors (c.draw_row-c.auto.colors ∙ c.as_mut_slice.ensures.len) in
+    let back = with_items_is d.colors c.draw_row-c.new.colors (c.draw_row-c.auto.colors ∙ c.deref_mut.ensures.len) in
     let told : Fills answers (vec_items d.readings) (vec_items d.colors) c.draw_row-c.result c.draw_row-c.new.colors =
-    rw (c.as_slice.ensures.value, c.as_mut_slice.ensures.value) at c.draw_row-c.ensures.value in
+    rw (c.deref.ensures.value, c.deref_mut.ensures.value) at c.draw_row-c.ensures.value in
     rw c.in-Draw.is (_, refl, refl, subst (Fills answers (vec_items d.readings) (vec_items d.colors) c.draw_row-c.result) (sym back) told)
 
 pub returns-in-Read-clause-value : goal.returns-in-Read-clause-value
@@ -19,9 +19,9 @@ returns-in-Read-clause-value g c =
     let n = g.N.Number in
     let d = c.in-Read.c in
     let answers = Answering n.means (g.B.Boundary.meaning c.args.boundary.now) (read_entry n.ops n.traced n.back) in
-    let back = with_items_is d.indications c.read_row-c.new.indications (c.read_row-c.auto.indications ∙ c.as_mut_slice-in-Read.ensures.len) in
+    let back = with_items_is d.indications c.read_row-c.new.indications (c.read_row-c.auto.indications ∙ c.deref_mut-in-Read.ensures.len) in
     let told : Fills answers (vec_items d.colors) (vec_items d.indications) c.read_row-c.result c.read_row-c.new.indications =
-    rw (c.as_slice-in-Read.ensures.value, c.as_mut_slice-in-Read.ensures.value) at c.read_row-c.ensures.value in
+    rw (c.deref-in-Read.ensures.value, c.deref_mut-in-Read.ensures.value) at c.read_row-c.ensures.value in
     rw c.in-Read.is (_, refl, refl, subst (Fills answers (vec_items d.colors) (vec_items d.indications) c.read_row-c.result) (sym back) told)
 
 pub returns-in-Ask-clause-value : goal.returns-in-Ask-clause-value
