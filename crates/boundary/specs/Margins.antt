@@ -1,5 +1,6 @@
 -- A margin: the three numbers of the boundary below, times a factor.
 use Rattle.std.specs.Prelude.{cond, Ok, Err, Result}
+use Rattle.std.specs.Result.{result_map_both}
 use Rattle.fault.specs.declared.faults.NumberFault.TheVariants.{Range}
 use Rattle.number.specs.Ops.{Ops}
 use Rattle.number.specs.declared.kind.Number.{Ghosts as NumberGhosts}
@@ -16,8 +17,7 @@ made_margin o f below =
 module _ {N B Plain : Type 0} {n : NumberGhosts N Plain} where
   -- the factor and the boundary of a margin that was made
   abbrev pub parts : Result (Margin N B Plain n) (Returned B) → Result (N × B) (Returned B)
-  parts (Ok m) = Ok (m.factor, m.below)
-  parts (Err e) = Err e
+  parts r = result_map_both (λ m. (m.factor, m.below)) (λ e. e) r
 
   abbrev pub margin_meaning : (B → Gamut) → Margin N B Plain n → Gamut
   margin_meaning meaning m q = times n.arith (meaning m.below q) (n.means m.factor)
