@@ -1,5 +1,6 @@
 // The page: it reads valve, temperature and opening off colours.
 ghost use Rattle.std.specs.Prelude.{◌≡◌, map};
+ghost use Rattle.std.specs.Option.{ok_or};
 ghost use Rattle.boundary.specs.Model.{Stays};
 ghost use Rattle.boundary.specs.Rule.{untold};
 ghost use Rattle.gamut.specs.Maps.{map_oklab};
@@ -52,11 +53,12 @@ fn largest<N: Number>(first: N, second: N, third: N) -> Valve
 }
 
 // A whole number in 0..limit.
-fn in_range(limit: u16, n: Option<i32>) -> Option<u16>
-    ensures { result ≡ ranged limit n }
+fn in_range(limit: u16, n: Option<i32>) -> Result<u16, NumberFault>
+    ensures { result ≡ ok_or (ranged limit n) NumberFault.Range }
 {
     n.and_then(|k| u16::try_from(k).ok())
         .filter(|k| *k <= limit)
+        .ok_or(NumberFault::Range)
 }
 
 // The indication of a valve with the nearest whole numbers to its opening and temperature.
@@ -67,8 +69,8 @@ fn indicate(
 ) -> Result<Indication, NumberFault>
     ensures { result ≡ indicated (valve_number valve) (ranged 1000 opening) (ranged 100 temperature) }
 {
-    let opening = in_range(1000, opening).ok_or(NumberFault::Range)?;
-    let temperature = in_range(100, temperature).ok_or(NumberFault::Range)?;
+    let opening = in_range(1000, opening)?;
+    let temperature = in_range(100, temperature)?;
     Ok(Indication {
         valve: if opening == 0 { 0 } else { valve.into() },
         temperature: temperature as u8,
