@@ -78,6 +78,7 @@ fn root_of(kind: Kind, operand: u32) -> u32 {
     })
 }
 
+// Much as in `palette_vectors`: one loop for both would need a trait with the kind, the row and what was found.
 fn run(rt: &HostRuntime) -> anyhow::Result<()> {
     let mut tallies = BTreeMap::<Kind, Tally>::new(rt.alloc());
     for line in BufReader::new(rt.alloc(), rt.stdin())?.lines(rt.alloc()) {

@@ -2,7 +2,7 @@
 // stack and read back with the page's, and then drawn and read again by a replay on the panel's stack, with a forget between.
 #![tactic(auto)]
 
-use blocks::{SIZE, next_block};
+use blocks::{BLOCK_SIZE, next_block};
 use boundary::{Margin, Memo, Triangle};
 use fault::NumberFault;
 use fraction::{Fraction, PlainFraction};
@@ -145,7 +145,7 @@ impl<W: Write> Site<W> {
 
     // Checks the readings of block after block, up to the end of the input; the range is what ends the loop where no input does.
     fn check_blocks<R: Read>(&mut self, input: &mut R) -> io::Result<()> {
-        let mut block = [0u8; SIZE];
+        let mut block = [0u8; BLOCK_SIZE];
         for _ in 0..u64::MAX {
             let Some(bytes) = next_block(input, &mut block)? else {
                 break;

@@ -1,14 +1,14 @@
 // Lists the blocks of a valve log from the standard input: a line for each reading, or a line for a refused block.
 #![tactic(auto)]
 
-use blocks::{SIZE, next_block};
+use blocks::{BLOCK_SIZE, next_block};
 use listing::put_block;
 use std::io;
 use std::io::{BufReader, BufWriter, Read, Write};
 
 // Lists block after block, one at a time in memory, up to the end of the input; the range is what ends the loop where no input does.
 fn list<R: Read, W: Write>(input: &mut R, out: &mut W, text: &mut String) -> io::Result<()> {
-    let mut block = [0u8; SIZE];
+    let mut block = [0u8; BLOCK_SIZE];
     for place in 0..u64::MAX {
         let Some(bytes) = next_block(input, &mut block)? else {
             break;

@@ -15,9 +15,9 @@ use oklab::{
 use std::io;
 use std::io::{BufWriter, Write};
 
-type Exact = Traced<Fraction>;
+type TracedFraction = Traced<Fraction>;
 
-type Float = Traced<f32>;
+type TracedF32 = Traced<f32>;
 
 fn report<W: Write>(out: &mut W, call: &str, fault: Option<NumberFault>) -> io::Result<()> {
     let Some(fault) = fault else {
@@ -156,52 +156,70 @@ fn main(rt: HostRuntime) -> io::Result<()> {
     report_all(
         &mut out,
         &[
-            ("Okhsl over sRGB, traced fractions", over_srgb::<Exact>()),
+            (
+                "Okhsl over sRGB, traced fractions",
+                over_srgb::<TracedFraction>(),
+            ),
             ("Okhsl over sRGB, fractions", over_srgb::<Fraction>()),
-            ("Okhsl over sRGB, traced f32", over_srgb::<Float>()),
+            ("Okhsl over sRGB, traced f32", over_srgb::<TracedF32>()),
             (
                 "a grey to Okhsl, traced fractions",
-                to_okhsl(grey::<Exact>()),
+                to_okhsl(grey::<TracedFraction>()),
             ),
-            ("a grey to Okhsl, traced f32", to_okhsl(grey::<Float>())),
+            ("a grey to Okhsl, traced f32", to_okhsl(grey::<TracedF32>())),
             (
                 "a diagonal to Okhsl, traced fractions",
-                to_okhsl(halves::<Exact>()),
+                to_okhsl(halves::<TracedFraction>()),
             ),
             (
                 "an overflow to Okhsl, traced f32",
-                to_okhsl(overflow::<Float>()),
+                to_okhsl(overflow::<TracedF32>()),
             ),
             (
                 "to XYZ, traced fractions",
-                oklab_to_xyz(halves::<Exact>()).err(),
+                oklab_to_xyz(halves::<TracedFraction>()).err(),
             ),
-            ("a quotient by 0, traced fractions", quotient::<Exact>()),
+            (
+                "a quotient by 0, traced fractions",
+                quotient::<TracedFraction>(),
+            ),
             (
                 "a quotient by 0, twice traced f32",
-                quotient::<Traced<Float>>(),
+                quotient::<Traced<TracedF32>>(),
             ),
-            ("from XYZ, traced fractions", from_xyz::<Exact>()),
+            ("from XYZ, traced fractions", from_xyz::<TracedFraction>()),
             (
                 "to linear sRGB, traced fractions",
-                oklab_to_linear_srgb(halves::<Exact>()).err(),
+                oklab_to_linear_srgb(halves::<TracedFraction>()).err(),
             ),
-            ("from linear sRGB, traced fractions", from_rgb::<Exact>()),
+            (
+                "from linear sRGB, traced fractions",
+                from_rgb::<TracedFraction>(),
+            ),
             (
                 "to Okhsv, traced fractions",
-                oklab_to_okhsv(halves::<Exact>()).err(),
+                oklab_to_okhsv(halves::<TracedFraction>()).err(),
             ),
-            ("from Okhsv, traced fractions", from_okhsv::<Exact>()),
+            (
+                "from Okhsv, traced fractions",
+                from_okhsv::<TracedFraction>(),
+            ),
             (
                 "to Okhwb, traced fractions",
-                okhsv_to_okhwb(small::<Exact>()).err(),
+                okhsv_to_okhwb(small::<TracedFraction>()).err(),
             ),
-            ("from Okhwb, traced fractions", from_okhwb::<Exact>()),
+            (
+                "from Okhwb, traced fractions",
+                from_okhwb::<TracedFraction>(),
+            ),
             (
                 "to Oklch, traced fractions",
-                oklab_to_oklch(halves::<Exact>()).err(),
+                oklab_to_oklch(halves::<TracedFraction>()).err(),
             ),
-            ("from Oklch, traced fractions", from_oklch::<Exact>()),
+            (
+                "from Oklch, traced fractions",
+                from_oklch::<TracedFraction>(),
+            ),
         ],
     )?;
     out.flush()
