@@ -82,6 +82,7 @@ impl Conversion {
     /// Compares what the words after the name in a row expect with what the library gives, which is the error where the two differ.
     /// None if these are not the words of a row.
     pub(crate) fn replay(self, words: &mut Words) -> Option<Result<(), Found>> {
+        // Closures throughout: the check does not yet take a function of another crate as a value.
         match self {
             Conversion::OkhslToOklab => compare(
                 words,

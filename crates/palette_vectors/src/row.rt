@@ -19,7 +19,8 @@ impl From<NumberFault> for Refused {
     }
 }
 
-/// What the library gives for a row: the bit patterns of its numbers, before zeros, or the number of its refusal.
+/// What the library gives for a row: the bit patterns of its numbers, or the number of its refusal. A line of output has four
+/// patterns, of which those past the numbers are 0.
 #[derive(Clone, Copy)]
 pub(crate) struct Found(Result<[u32; 4], Refused>);
 
