@@ -146,6 +146,7 @@ impl<W: Write> Site<W> {
     // Checks the readings of block after block, up to the end of the input; the range is what ends the loop where no input does.
     fn check_blocks<R: Read>(&mut self, input: &mut R) -> io::Result<()> {
         let mut block = [0u8; BLOCK_SIZE];
+        // Counted, since nothing says that an input ends.
         for _ in 0..u64::MAX {
             let Some(bytes) = next_block(input, &mut block)? else {
                 break;
