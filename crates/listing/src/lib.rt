@@ -62,6 +62,7 @@ fn put_refusal(text: &mut String, fault: BlockFault, place: u64) -> fmt::Result
     Ok(writeln!(text, "refused {number} at {place}")?)
 }
 
+#[tactic(auto, unfolding(rational::specs::Rational::computes))]
 fn half() -> Fraction
     ensures { meaning_of result ≡ ratio (pos 1) 2 }
 {
@@ -85,6 +86,7 @@ impl Lister {
     }
 
     // Appends the line of one reading.
+    #[tactic(auto, unfolding(crate::specs::Listing::drawn))]
     fn put_reading(&mut self, text: &mut String, i: usize, reading: Reading) -> fmt::Result
         ensures text { OnOk result (string_bytes text.new ≡ string_bytes text.old ++ line_of self.old.number i reading) }
         ensures same_number { self.new.number ≡ self.old.number }
