@@ -143,7 +143,7 @@ impl<W: Write> Site<W> {
         )
     }
 
-    // Checks the readings of block after block, up to the end of the input; the range is what ends the loop where no input does.
+    // Checks the readings of block after block, up to the end of the input.
     fn check_blocks<R: Read>(&mut self, input: &mut R) -> io::Result<()> {
         let mut block = [0u8; BLOCK_SIZE];
         // Counted, since nothing says that an input ends.

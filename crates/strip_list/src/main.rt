@@ -6,7 +6,7 @@ use listing::put_block;
 use std::io;
 use std::io::{BufReader, BufWriter, Read, Write};
 
-// Lists block after block, one at a time in memory, up to the end of the input; the range is what ends the loop where no input does.
+// Lists block after block, one at a time in memory, up to the end of the input.
 fn list<R: Read, W: Write>(input: &mut R, out: &mut W, text: &mut String) -> io::Result<()> {
     let mut block = [0u8; BLOCK_SIZE];
     // Counted, since nothing says that an input ends.
