@@ -7,7 +7,7 @@ use Rattle.number.specs.Ops.{Ops, Hom}
 use Rattle.boundary.specs.Query.{Gamut}
 use Rattle.boundary.specs.Rule.{meant, untold, refuses, first_trace, admitted}
 use Rattle.boundary.specs.Triangles.{triangle_at}
-use Rattle.boundary.specs.Model.{Model, times, Stays}
+use Rattle.boundary.specs.Model.{Model, Stays}
 use Rattle.gamut.specs.Maps.{map_values}
 
 -- Where numbers have no trace, a refusal has none.
@@ -38,9 +38,6 @@ module _ {N M : Type 0} {f : N → M} {o : Ops N} {p : Ops M} (h : Hom f o p) wh
 
   pub triangle-carried : (s t l : N) → map_values f (triangle_at o s t l) ≡ triangle_at p (f s) (f t) (f l)
   triangle-carried s t l = simp (h.mul, h.min, h.sub, h.div, h.whole)
-
-  pub times-carried : (v : ChromaValues N) (k : N) → map_values f (times o v k) ≡ times p (map_values f v) (f k)
-  times-carried v k = λ i. record { zero = h.mul v.zero k i; mid = h.mul v.mid k i; max = h.mul v.max k i }
 
   -- So an answer by the rule is told by what the three numbers mean.
   pub answer_carried : (traced : N → Option (ℕ × ℕ)) (l : N) (v : ChromaValues N) (w : ChromaValues M) (r : Result (ChromaValues N) NumberFault) → r ≡ admitted o traced l v → map_values f v ≡ w → meant (map_values f) r ≡ admitted p untold (f l) w
