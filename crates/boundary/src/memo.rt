@@ -95,9 +95,8 @@ impl<N: Number, B: Boundary<N>> Boundary<N> for Memo<N, B> {
         v
     }
 
-    // The body of the trait's own `query`, written again for its clause `recalls`.
     /// The same with the rule of refusal.
-    // Written out, though the trait's own does the same: only a method of the memo's can promise `recalls`.
+    // The body of the trait's own `query`, written again: only a method of the memo's can promise `recalls`.
     fn query(&mut self, query: &Query<N>) -> Result<ChromaValues<N>, NumberFault>
         ensures gives { (v : Values N) × (map_values N.means v ≡ memo_meaning self.old (map_query N.means query.now)) × (result ≡ admitted N.ops N.traced query.now.lightness v) }
         ensures means { meant (map_values N.means) result ≡ answered N.arith (memo_meaning self.old) (map_query N.means query.now) }

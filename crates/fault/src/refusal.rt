@@ -80,7 +80,7 @@ impl BlockFault {
     }
 }
 
-// The word of a refusal's number; another number has none.
+// The word of a refusal's number; another number has none, and is printed with nothing after it. No derive has such texts.
 fn word(number: u8) -> &'static str
     ensures { result.now ≡ word_of number }
 {

@@ -95,6 +95,18 @@ pub exact_root-test : (d s n : ℕ) → 0 < d → IsWholeRoot d s n → exact_ro
 unfolding is_power
 exact_root-test d s n D h = let e = root-whole d s n D h in λ i. then_some (e i ^ d == n) (e i)
 
+pub exact-square : (s n : ℕ) → (s * s ≤ n) × (n < (s + 1) * (s + 1)) → exact_root 2 n ≡ then_some (s * s == n) s
+exact-square s n (p, q) = exact_root-test 2 s n (N.zero-lt-suc 1) (subst (λ (x : ℕ). x ≤ n) (sym (square s)) p, subst (λ (x : ℕ). n < x) (sym (square (s + 1))) q)
+    ∙ ap (λ (x : ℕ). then_some (x == n) s) (square s)
+
+pub exact-cube : (s n : ℕ) → (s * s * s ≤ n) × (n < (s + 1) * (s + 1) * (s + 1)) → exact_root 3 n ≡ then_some (s * s * s == n) s
+exact-cube s n (p, q) = exact_root-test 3 s n (N.zero-lt-suc 2) (subst (λ (x : ℕ). x ≤ n) (sym (cube s)) p, subst (λ (x : ℕ). n < x) (sym (cube (s + 1))) q)
+    ∙ ap (λ (x : ℕ). then_some (x == n) s) (cube s)
+
+pub square_below_cube : (s : ℕ) → s * s ≤ s * s * s
+square_below_cube zero = omega arith
+square_below_cube (suc s) = N.le_trans (N.le_of_eq (sym (N.mul-one (suc s * suc s)))) (N.mul-le-mul_left (suc s * suc s) (N.zero-lt-suc s))
+
 -- a base divides its power, and is not above it
 base_divides : (d w : ℕ) → 0 < d → w ∣ w ^ d
 base_divides zero w D = absurd (omega arith)

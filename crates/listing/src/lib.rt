@@ -111,6 +111,7 @@ impl Lister {
 pub fn put_block(text: &mut String, bytes: &[u8], place: u64) -> fmt::Result
     ensures { OnOk result (string_bytes text.new ≡ string_bytes text.old ++ block_text place bytes.now) }
 {
+    // As many entries as a block can have; a smaller count stands in its head.
     let mut row = [BLANK; 62];
     match valve_log::read(bytes, &mut row) {
         Ok(head) => {

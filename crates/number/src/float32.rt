@@ -12,7 +12,7 @@ use crate::literal::Literal;
 use roots::{cbrt_f32, sqrt_f32};
 use std::num::{f32_to_bits_with_nan, nearest_i64_to_f32, saturating_f32_to_i32};
 
-// The f32 nearest to each literal's nearest f64, in the order of `Literal`.
+// The f32 nearest to each literal's nearest f64, in the order of `Literal`: a `match` would say the same in 116 arms.
 const NEAREST: [f32; 116] = [
     0.5,
     0.4,

@@ -70,6 +70,7 @@ fn parse_row(line: &str) -> Option<Row> {
     })
 }
 
+// A match of two kinds is the plainest switch between two functions.
 fn root_of(kind: Kind, operand: u32) -> u32 {
     let x = f32_from_bits_with_nan(operand);
     f32_to_bits_with_nan(match kind {

@@ -1,5 +1,6 @@
 -- The 25 leading digits of a root, however they were found, give its value: over the degree, for floats of 32 bits. Assumes nothing.
 use Rattle.std.proofs.Common.{◌≡◌, ℕ, zero, suc, ◌+◌, ◌-◌, ◌*◌, ◌/◌, ◌%◌, ◌^◌, ◌<◌, ◌≤◌, Bool, true, false, T, ◌⊎◌, sym, refl, ap, ◌∙◌, subst, inl, inr, true≢false, le_trans, le_of_eq, lt_of_lt_of_le, le_of_suc-le-suc, lt_of_le_of_lt, mul-le-mul_right, mul_assoc, div-lt_iff_lt-mul, eq-zero-or-pos, mul-le-mul, lt_of_mul-lt-mul_right, eq-or-lt_of_le, mul-lt-mul_of_pos_right, mul-pos, pow-suc, lt_of_not-le, le-div_iff_mul-le, mul_right_comm, not-le_of_lt, mul-div_cancel, arith, pow_pos, pow_mono, pow-add}
+use Rattle.std.proofs.lemmas.Nat.{mul-pow}
 use native.Mathlib.Nat.{pow-le-pow_left, eq_of_mul-eq-mul_right}
 use lib.Ieee.{Float, nan, inf, fin, binary32, up, down, units, fits, is_nan, of_bits, to_bits}
 use lib.Ieee as Ieee
@@ -9,7 +10,7 @@ use lib.Ieee.Order.{drop}
 use Rattle.std.specs.Float as Floats
 use Rattle.roots.specs.Digits.{rounded, root_twice, steps}
 use Rattle.roots.specs.Roots.{cbrt}
-use Rattle.roots.proofs.Powers.{power_at, square, cube, power_of_product, power_of_power, odd_power, Whole, Twice, root_twice_lem}
+use Rattle.roots.proofs.Powers.{power_at, square, cube, power_of_power, odd_power, Whole, Twice, root_twice_lem}
 use Rattle.roots.proofs.Rounding.{near}
 use Rattle.roots.proofs.FloatRoots.{square_twice, at_own}
 use Rattle.roots.proofs.Signs.{sign_of_units}
@@ -38,7 +39,7 @@ closest_is n u a h l =
 
 module _ (d h q u N t : ℕ) (U : 0 < u) (R : Twice d N t) (N_is : N ≡ 2 * h * u ^ d) (W : Whole d q (2 * h)) where
   power_of : (a : ℕ) → (a * u) ^ d ≡ a ^ d * u ^ d
-  power_of a = power_of_product a u d
+  power_of a = mul-pow a u d
 
   V : 0 < u ^ d
   V = native.Mathlib.Nat.one-le-pow d u U

@@ -1,9 +1,10 @@
 -- Twice a root, rounded to p significant digits, is the nearest root: for any degree, any p and any unit 2 ^ -l. Assumes nothing.
 use Rattle.std.proofs.Common.{◌≡◌, ℕ, suc, ◌+◌, ◌-◌, ◌*◌, ◌%◌, ◌^◌, ◌<◌, ◌≤◌, sym, ap, ◌∙◌, subst, inl, inr, le_trans, mul_assoc, eq-zero-or-pos, lt_of_mul-lt-mul_right, mul-le-mul_left, mul-lt-mul_of_pos_right, mul-pos, div-add-mod', arith, pow_pos, pow_mono, pow-add}
+use Rattle.std.proofs.lemmas.Nat.{mul-pow}
 use native.Mathlib.Nat.{eq_of_mul-eq-mul_right, pow-le-pow_left}
 use lib.Ieee.Order.{drop, kept}
 use Rattle.roots.specs.Roots.{Held, Nearest}
-use Rattle.roots.proofs.Powers.{power_at, power_of_product, power_of_power, odd_power, Twice}
+use Rattle.roots.proofs.Powers.{power_at, power_of_power, odd_power, Twice}
 use Rattle.roots.proofs.Rounding as Rounding
 
 -- An odd number of more than p digits, to the power of d, is no number of at most p * d digits, whatever powers of two they are multiplied by.
@@ -40,7 +41,7 @@ module _ (d p m l g x n t : ℕ) (D : 0 < d) (P : 0 < p) (M : m ≤ p * d) (X : 
 
   -- z / 2 units, as a number that is compared with t, and to the power of d
   power : (z : ℕ) → (z * 2 ^ g) ^ d * 2 ^ l ≡ z ^ d * 2 ^ l * 2 ^ (g * d)
-  power z = ap (λ (k : ℕ). k * 2 ^ l) (power_of_product z (2 ^ g) d ∙ ap (λ (k : ℕ). z ^ d * k) (power_of_power 2 g d)) ∙ native.Mathlib.Nat.mul_right_comm (z ^ d) (2 ^ (g * d)) (2 ^ l)
+  power z = ap (λ (k : ℕ). k * 2 ^ l) (mul-pow z (2 ^ g) d ∙ ap (λ (k : ℕ). z ^ d * k) (power_of_power 2 g d)) ∙ native.Mathlib.Nat.mul_right_comm (z ^ d) (2 ^ (g * d)) (2 ^ l)
 
   scaled : n * 2 ^ l ≡ x * 2 ^ (suc l * d) * 2 ^ (g * d)
   scaled = N ∙ ap (λ (k : ℕ). x * k) (power_at ((suc l + g) * d) (suc l * d + g * d) (omega arith) ∙ pow-add 2 (suc l * d) (g * d)) ∙ sym (mul_assoc x (2 ^ (suc l * d)) (2 ^ (g * d)))
@@ -86,7 +87,7 @@ module _ (d p m l g x n t : ℕ) (D : 0 < d) (P : 0 < p) (M : m ≤ p * d) (X : 
       let v : w * 2 ^ g ≡ (2 * c + 1) * 2 ^ (g + k) = omega (arith, ap (λ (i : ℕ). (2 * c + 1) * i) (pow-add 2 g k)) in
       let h : o * 2 ^ ((g + k) * d + l) ≡ n * 2 ^ l =
       ap (λ (i : ℕ). o * i) (pow-add 2 ((g + k) * d) l) ∙ sym (mul_assoc o (2 ^ ((g + k) * d)) (2 ^ l))
-      ∙ ap (λ (i : ℕ). i * 2 ^ l) (ap (λ (i : ℕ). o * i) (sym (power_of_power 2 (g + k) d)) ∙ sym (power_of_product (2 * c + 1) (2 ^ (g + k)) d) ∙ ap (λ (i : ℕ). i ^ d) (sym v) ∙ R.same (w * 2 ^ g) s) in
+      ∙ ap (λ (i : ℕ). i * 2 ^ l) (ap (λ (i : ℕ). o * i) (sym (power_of_power 2 (g + k) d)) ∙ sym (mul-pow (2 * c + 1) (2 ^ (g + k)) d) ∙ ap (λ (i : ℕ). i ^ d) (sym v) ∙ R.same (w * 2 ^ g) s) in
       let q = X.0 in
       let j = X.1 in
       let i : n * 2 ^ l ≡ q * 2 ^ (j + (suc l + g) * d) =

@@ -1,5 +1,6 @@
 -- Powers, and the whole part of a root of any degree. Assumes nothing.
 use Rattle.std.proofs.Common.{◌≡◌, ℕ, zero, suc, ◌+◌, ◌*◌, ◌/◌, ◌%◌, ◌^◌, ◌<◌, ◌≤◌, Bool, true, false, cond, eqb, leb, sym, refl, ap, ◌∙◌, subst, le_trans, le_of_eq, lt_of_lt_of_le, mul_comm, div-lt_iff_lt-mul, mul-le-mul_left, one-mul, pow-suc, le-div_iff_mul-le, arith, pow_pos, pow_mono, pow-add, eqb-true, leb-false, leb-true}
+use Rattle.std.proofs.lemmas.Nat.{mul-pow}
 use native.Mathlib.Nat.{pow-zero, pow-le-pow_left, pow-lt-pow_left}
 use borrow.Author.Tests.{eqb-false}
 use lib.Arith.{lt_of_le-ne}
@@ -16,15 +17,6 @@ square s = pow-suc s 1 ∙ ap (λ (x : ℕ). x * s) (pow-suc s 0 ∙ ap (λ (x :
 pub cube : (s : ℕ) → s ^ 3 ≡ s * s * s
 cube s = pow-suc s 2 ∙ ap (λ (x : ℕ). x * s) (square s)
 
-pub power_of_product : (a b d : ℕ) → (a * b) ^ d ≡ a ^ d * b ^ d
-power_of_product a b zero = pow-zero (a * b) ∙ sym (λ i. pow-zero a i * pow-zero b i)
-power_of_product a b (suc d) =
-    let h = power_of_product a b d in
-    pow-suc (a * b) d ∙ ap (λ (x : ℕ). x * (a * b)) h ∙ regroup (a ^ d) (b ^ d) ∙ sym (λ i. pow-suc a d i * pow-suc b d i)
-  where
-    regroup : (x y : ℕ) → x * y * (a * b) ≡ x * a * (y * b)
-    regroup x y = omega arith
-
 pub power_of_power : (a k d : ℕ) → (a ^ k) ^ d ≡ a ^ (k * d)
 power_of_power a k zero = pow-zero (a ^ k) ∙ sym (ap (λ (x : ℕ). a ^ x) {x = k * 0} {y = 0} (omega arith) ∙ pow-zero a)
 power_of_power a k (suc d) =
@@ -40,7 +32,7 @@ abbrev pub Whole : ℕ → ℕ → ℕ → Type 0
 Whole d s n = (s ^ d ≤ n) × (n < (s + 1) ^ d)
 
 twice : (r d : ℕ) → (2 * r) ^ d ≡ r ^ d * 2 ^ d
-twice r d = power_of_product 2 r d ∙ mul_comm (2 ^ d) (r ^ d)
+twice r d = mul-pow 2 r d ∙ mul_comm (2 ^ d) (r ^ d)
 
 digit : (d r n : ℕ) (b : Bool) → Whole d r (n / 2 ^ d) → leb ((2 * r + 1) ^ d) n ≡ b → Whole d (cond b (2 * r + 1) (2 * r)) n
 digit d r n true h e =

@@ -31,7 +31,7 @@ fn cube(r: u64) -> u128
     (r * r) as u128 * r as u128
 }
 
-// The root lies from `low` up to below `high`.
+// The root lies from `low` up to below `high`. A loop: no method of std halves an interval of numbers.
 fn cube_root_by_halving(n: u128) -> u64
     requires { n < 2 ^ 75 }
     ensures { (result * result * result ≤ n) × (n < (result + 1) * (result + 1) * (result + 1)) }

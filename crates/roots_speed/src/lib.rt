@@ -32,7 +32,7 @@ fn bits(x: f32) -> u64 {
     u64::from(f32_to_bits_with_nan(x))
 }
 
-// The sum of the results at `count` pseudorandom numbers.
+// The sum of the results at `count` pseudorandom numbers; there is no list of them to go over.
 #[inline(always)]
 fn sum_of<F: Fn(u64) -> u64>(count: u32, result_at: F) -> u64
     requires { F.IsAlwaysCallable result_at }

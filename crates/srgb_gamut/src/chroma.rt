@@ -40,6 +40,7 @@ fn values_at<N: Number>(lightness: N, h: Direction<N>, cusp: LC<N>, max: N) -> C
 {
     let k = scale(max, ST::from_cusp(cusp).sides(lightness));
     let mid = mid_chroma(k, ST::mid(h).sides(lightness));
+    // Field by field: a public `map` would have to require that its function may be called.
     ChromaValues {
         zero: zero_chroma(lightness).mark(Stage::ChromaValues),
         mid: mid.mark(Stage::ChromaValues),
