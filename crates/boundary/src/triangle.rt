@@ -19,7 +19,7 @@ pub struct Triangle<N> {
     t: N,
 }
 
-// Whether a number is above 0.
+// Whether a number is above 0; a margin's factor has the same two tests, grouped with a third.
 fn is_slope<N: Number>(s: N) -> bool
     ensures { result ≡ is_slope N.ops s }
 {

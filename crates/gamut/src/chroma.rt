@@ -14,6 +14,7 @@ pub struct ChromaValues<N> {
 
 impl<N: Number> ChromaValues<N> {
     /// The values with each number in its plain form.
+    // Field by field: with no other use, a `map` would be longer.
     pub fn to_plain(self) -> ChromaValues<N::Plain>
         ensures { result ≡ map_values N.plain self }
     {

@@ -13,6 +13,7 @@ pub struct Direction<N> {
 
 impl<N: Number> Direction<N> {
     /// The hue of plain forms.
+    // Field by field: with no other use, a `map` would be longer.
     pub fn from_plain(p: Direction<N::Plain>) -> Direction<N>
         ensures { result ≡ map_direction N.back p }
     {

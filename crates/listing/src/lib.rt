@@ -16,15 +16,7 @@ use fraction::Fraction;
 use gamut::oklab::Oklab;
 use std::fmt;
 use strip::panel::draw;
-use valve_log::Reading;
-
-/// An entry of a row that no block has been read to.
-pub const BLANK: Reading = Reading {
-    minute: 0,
-    valve: 0,
-    temperature: 0,
-    opening: 0,
-};
+use valve_log::{READINGS, Reading};
 
 // Appends the three numbers of a colour.
 fn put_color(text: &mut String, color: Oklab<Fraction>) -> fmt::Result
@@ -112,7 +104,7 @@ pub fn put_block(text: &mut String, bytes: &[u8], place: u64) -> fmt::Result
     ensures { OnOk result (string_bytes text.new ≡ string_bytes text.old ++ block_text place bytes.now) }
 {
     // As many entries as a block can have; a smaller count stands in its head.
-    let mut row = [BLANK; 62];
+    let mut row = [Reading::default(); READINGS];
     match valve_log::read(bytes, &mut row) {
         Ok(head) => {
             let mut lister = Lister::new(head.number).map_err(|_| fmt::Error)?;

@@ -50,6 +50,7 @@ pub(crate) struct Polar<N> {
     chroma: N,
 }
 
+// Grouped as palette has it, which is not the largest channel first.
 fn brightest<N: Number>(c: LinSrgb<N>) -> N
     ensures { result ≡ brightest_of N.ops c }
 {

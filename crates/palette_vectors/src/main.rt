@@ -22,7 +22,7 @@ fn replay(line: &str) -> Option<(Conversion, Result<(), Found>)> {
     Some((conversion, outcome))
 }
 
-// Much as in `root_vectors`: one loop for both would need a trait with the kind, the row and what was found.
+// Much as in `root_vectors`: a loop for both would be a library's, and no contract could say what it prints.
 fn run(rt: &HostRuntime) -> anyhow::Result<()> {
     let mut tallies = BTreeMap::<Conversion, Tally>::new(rt.alloc());
     for line in BufReader::new(rt.alloc(), rt.stdin())?.lines(rt.alloc()) {

@@ -79,7 +79,7 @@ fn root_of(kind: Kind, operand: u32) -> u32 {
     })
 }
 
-// Much as in `palette_vectors`: one loop for both would need a trait with the kind, the row and what was found.
+// Much as in `palette_vectors`: a loop for both would be a library's, and no contract could say what it prints.
 fn run(rt: &HostRuntime) -> anyhow::Result<()> {
     let mut tallies = BTreeMap::<Kind, Tally>::new(rt.alloc());
     for line in BufReader::new(rt.alloc(), rt.stdin())?.lines(rt.alloc()) {

@@ -13,6 +13,9 @@ ghost use Rattle.roots.specs.Roots.{Root, Signed, cbrt, FloatsHeld, NearestUniqu
 
 use guess::Leading;
 
+// Square and cube roots stay apart: their whole numbers have 64 and 128 bits, and one carries a sign. They share the digits, the
+// rounding and the check of a guess; a trait for two degrees would be longer than what is left.
+
 /// The square root: the `f32` nearest to the exact root. Zeros and infinity are their own roots; the
 /// root of a value below 0 is not a number.
 pub fn sqrt_f32(x: f32) -> f32

@@ -13,7 +13,7 @@ pub(crate) fn square_root(n: u64, guess: u64) -> u64
     n.isqrt()
 }
 
-// The whole part of the cube root.
+// The whole part of the cube root. The promise is written out wherever a root is answered: it is what is known of the result.
 pub(crate) fn cube_root(n: u128, guess: u64) -> u64
     requires { (n < 2 ^ 75) × (guess < 2 ^ 25) }
     ensures { (result * result * result ≤ n) × (n < (result + 1) * (result + 1) * (result + 1)) }

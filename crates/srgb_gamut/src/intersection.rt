@@ -103,7 +103,8 @@ fn cube_along<N: Number>(x: N, d: N) -> Jet<N>
     }
 }
 
-// Each channel as a sum over LMS: it differs from channel to channel which constant is negated and which product subtracted.
+// Each channel as a sum over LMS: it differs from channel to channel which constant is negated and which product subtracted. The
+// conversion to sRGB has the other spelling of green and blue, so no more than red is the same there.
 fn red_sum<N: Number>(c: Lms<N>) -> N
     ensures { result ≡ red_sum N.ops c.l c.m c.s }
 {

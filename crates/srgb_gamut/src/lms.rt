@@ -20,6 +20,7 @@ pub(crate) fn each<A: Copy, B, F: Fn(A) -> B>(c: Lms<A>, f: F) -> Lms<B>
     }
 }
 
+// As `gamut`'s product of vectors, which is private there.
 pub(crate) fn dot<N: Number>(w: Lms<N>, c: Lms<N>) -> N
     ensures { result ≡ dot_of N.ops w c }
 {

@@ -4,7 +4,7 @@ ghost use Rattle.srgb_gamut.specs.Triangle.{st_of, cubic, mid_s, mid_t, mid as m
 
 use crate::cusp::LC;
 use gamut::direction::Direction;
-use number::{Literal, Number};
+use number::{Literal, Number, cube, square};
 
 /// The slopes of a triangle's sides: the largest chroma of a lightness l is the smaller of s l and t (1 − l).
 #[derive(Clone, Copy)]
@@ -110,16 +110,13 @@ impl<N: Number> Sides<N> {
     pub(crate) fn soft_min2(self) -> N
         ensures { result ≡ soft_min2 N.ops self }
     {
-        self.map(|x| x.mul(x)).parallel().sqrt()
+        self.map(|x| square(x)).parallel().sqrt()
     }
 
     // A soft minimum by the fourth power.
     pub(crate) fn soft_min4(self) -> N
         ensures { result ≡ soft_min4 N.ops self }
     {
-        self.map(|x| x.mul(x).mul(x).mul(x))
-            .parallel()
-            .sqrt()
-            .sqrt()
+        self.map(|x| cube(x).mul(x)).parallel().sqrt().sqrt()
     }
 }

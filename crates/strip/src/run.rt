@@ -22,6 +22,7 @@ use valve_log::Reading;
 /// A row of readings to draw, with how it ended.
 #[derive(Drop)]
 pub struct DrawCall<P> {
+    // Two rows as the caller has them, of one length or not, as a refusal tells; the call writes `end`, whatever it was.
     pub readings: Vec<Reading>,
     pub colors: Vec<Oklab<P>>,
     pub end: Result<(), RowFault>,

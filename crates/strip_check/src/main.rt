@@ -7,31 +7,12 @@ use boundary::{Margin, Memo, Triangle};
 use fault::NumberFault;
 use fraction::{Fraction, PlainFraction};
 use gamut::oklab::Oklab;
-use listing::BLANK;
 use number::Number;
 use std::alloc::{AllocError, Global};
 use std::io;
 use std::io::{BufReader, BufWriter, Read, Write};
 use strip::{Call, DrawCall, Indication, ReadCall, commission, replay};
-use valve_log::Reading;
-
-const ZERO: PlainFraction = PlainFraction {
-    numerator: 0,
-    denominator: 1,
-    lost: false,
-};
-
-const BLACK: Oklab<PlainFraction> = Oklab {
-    l: ZERO,
-    a: ZERO,
-    b: ZERO,
-};
-
-const NOTHING: Indication = Indication {
-    valve: 0,
-    temperature: 0,
-    opening: 0,
-};
+use valve_log::{READINGS, Reading};
 
 type Stack = Margin<Fraction, Memo<Fraction, Margin<Fraction, Triangle<Fraction>>>>;
 
@@ -41,6 +22,17 @@ fn stack() -> Result<Stack, NumberFault> {
     let inner = Margin::new(Fraction::new(9, 10), base)?;
     let outer = Margin::new(Fraction::new(4, 5), Memo::new(inner))?;
     Ok(outer)
+}
+
+// Black, a colour to be written over.
+fn black() -> Oklab<PlainFraction> {
+    let zero = Fraction::whole(0);
+    Oklab {
+        l: zero,
+        a: zero,
+        b: zero,
+    }
+    .to_plain()
 }
 
 // What a reading that comes home indicates: its opening and temperature, and its valve, or 0 where the opening is 0.
@@ -82,8 +74,8 @@ impl<W: Write> Site<W> {
         &mut self,
         readings: &[Reading],
     ) -> Result<(Vec<Oklab<PlainFraction>>, usize), AllocError> {
-        let mut colors = vec![in self.heap; BLACK; readings.len()]?;
-        let mut seen = vec![in self.heap; NOTHING; readings.len()]?;
+        let mut colors = vec![in self.heap; black(); readings.len()]?;
+        let mut seen = vec![in self.heap; Indication::default(); readings.len()]?;
         let end = commission::<Fraction, Stack, Stack>(
             &mut self.panel,
             &mut self.page,
@@ -93,6 +85,7 @@ impl<W: Write> Site<W> {
         );
         let home = match end {
             Ok(()) => count_home(readings, seen.as_slice()),
+            // Of a row that is refused none comes home.
             Err(_) => 0,
         };
         Ok((colors, home))
@@ -106,12 +99,12 @@ impl<W: Write> Site<W> {
     ) -> Result<usize, AllocError> {
         let draw = DrawCall {
             readings: readings.to_vec(self.heap)?,
-            colors: vec![in self.heap; BLACK; readings.len()]?,
+            colors: vec![in self.heap; black(); readings.len()]?,
             end: Ok(()),
         };
         let read = ReadCall {
             colors: colors.to_vec(self.heap)?,
-            indications: vec![in self.heap; NOTHING; colors.len()]?,
+            indications: vec![in self.heap; Indication::default(); colors.len()]?,
             end: Ok(()),
         };
         let mut calls = [Call::Draw(draw), Call::Forget, Call::Read(read)];
@@ -151,7 +144,7 @@ impl<W: Write> Site<W> {
             let Some(bytes) = next_block(input, &mut block)? else {
                 break;
             };
-            let mut row = [BLANK; 62];
+            let mut row = [Reading::default(); READINGS];
             if let Ok(head) = valve_log::read(bytes, &mut row) {
                 self.check_row(head.number, &row[0..usize::from(head.count)])?;
             }

@@ -7,6 +7,7 @@ mod reading;
 mod record;
 mod valve;
 
-pub use block::{Head, read, write};
+pub use block::{BLOCK, Head, read, write};
 pub use reading::{Reading, check_row};
+pub use record::READINGS;
 pub use valve::Valve;
