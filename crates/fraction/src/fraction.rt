@@ -13,8 +13,9 @@ mod root;
 mod show;
 mod sign;
 
-/// A fraction in lowest terms whose numerator, without its sign, and denominator are at most 2^62 − 1; or a lost one.
-// The form is fixed: three fields that lie in a row as they stand.
+/// A fraction in lowest terms whose numerator, without its sign, and denominator are at most 2^62 − 1; or a lost one. By `==`, as by
+/// `same`, a lost one is equal to a lost one; by `Number::eq` it equals nothing.
+// The form is fixed: numerator, denominator and a flag under one invariant.
 #[derive(Clone, Copy, PartialEq, Eq)]
 pub struct Fraction {
     numerator: i64,

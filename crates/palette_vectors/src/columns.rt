@@ -8,7 +8,7 @@ use gamut::xyz::Xyz;
 use oklab::{Okhsl, Okhsv, Okhwb, Oklch};
 use srgb_gamut::LC;
 
-/// A value for which a row has up to four numbers.
+/// A value for which a row has up to four numbers. Each type has an impl of its own, since its fields have names of their own.
 pub(crate) trait Columns: Copy {
     /// Reads the value's numbers off a row. None if they are not there.
     fn parse(words: &mut Words) -> Option<Self>;

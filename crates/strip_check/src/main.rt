@@ -144,6 +144,7 @@ impl<W: Write> Site<W> {
             let Some(bytes) = next_block(input, &mut block)? else {
                 break;
             };
+            // As many entries as a block can have; a smaller count stands in its head.
             let mut row = [Reading::default(); READINGS];
             if let Ok(head) = valve_log::read(bytes, &mut row) {
                 self.check_row(head.number, &row[0..usize::from(head.count)])?;
