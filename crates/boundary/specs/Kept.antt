@@ -9,6 +9,11 @@ use Rattle.boundary.specs.Query.{Gamut, map_query, same_query}
 use Rattle.boundary.specs.declared.memo.Kept.{Kept}
 use Rattle.boundary.specs.declared.query.Query.{Query}
 
+-- What clauses see of a memo: the boundary below, and what is kept.
+pub record MemoView (N B : Type 0) : Type 0 where
+  pub below : B
+  pub kept : Option (Kept N)
+
 -- What is kept after a query: an accepted one with its answer, else what was kept before.
 abbrev pub after : {N : Type 0} → Option (Kept N) → Query N → Result (ChromaValues N) NumberFault → Option (Kept N)
 after old q (Ok v) = Some (record { query = q; answer = v })
