@@ -1,34 +1,46 @@
 // The text of the listing, block by block.
 #![tactic(auto)]
 
-ghost use Rattle.std.specs.Prelude.{◌≡◌, ◌++◌, pos, string_bytes, IfOk, Ok, OnOk};
+ghost use Rattle.std.specs.Prelude.{◌≡◌, ◌++◌, pos, string_bytes, IfOk, OnOk};
 ghost use Rattle.boundary.specs.Triangles.{triangle_meaning};
 ghost use Rattle.fraction.specs.Bounded.{arithmetic, ratio};
 ghost use Rattle.fraction.specs.Fractions.{meaning_of};
-ghost use Rattle.gamut.specs.Maps.{map_oklab};
-ghost use Rattle.strip.specs.Alike.{meant_turn};
+ghost use Rattle.listing.specs.Answers.{row_text, plain_text};
 ghost use Rattle.listing.specs.Cases.{CasesHold};
-ghost use Rattle.listing.specs.Listing.{listed, color_text, start_of, line_of, lines_of, refusal_of, block_text};
+ghost use Rattle.listing.specs.Listing.{listed, drawn, color_text, start_of, line_of, lines_of, refusal_of, block_text};
 
 use boundary::Triangle;
-use fault::{BlockFault, NumberFault, TurnFault};
-use fraction::Fraction;
+use fault::{BlockFault, NumberFault, RowFault};
+use fraction::{Fraction, PlainFraction};
 use gamut::oklab::Oklab;
 use std::fmt;
-use strip::panel::draw;
+use strip::panel::draw_row;
 use valve_log::{READINGS, Reading};
 
+const ZERO: PlainFraction = PlainFraction {
+    numerator: 0,
+    denominator: 1,
+    lost: false,
+};
+
+// A colour to be written over.
+const BLACK: Oklab<PlainFraction> = Oklab {
+    l: ZERO,
+    a: ZERO,
+    b: ZERO,
+};
+
 // Appends the three numbers of a colour.
-fn put_color(text: &mut String, color: Oklab<Fraction>) -> fmt::Result
-    ensures { OnOk result (string_bytes text.new ≡ string_bytes text.old ++ color_text (Ok (map_oklab meaning_of color))) }
+fn put_color(text: &mut String, color: Oklab<PlainFraction>) -> fmt::Result
+    ensures { OnOk result (string_bytes text.new ≡ string_bytes text.old ++ plain_text color) }
 {
-    let Oklab { l, a, b } = color;
+    let Oklab { l, a, b } = Oklab::<Fraction>::from_plain(color);
     Ok(writeln!(text, "{l} {a} {b}")?)
 }
 
 // Appends how a line ends: a colour, or the number of its refusal.
-fn put_answer(text: &mut String, answer: Result<Oklab<Fraction>, TurnFault>) -> fmt::Result
-    ensures { OnOk result (string_bytes text.new ≡ string_bytes text.old ++ color_text (meant_turn (map_oklab meaning_of) answer)) }
+fn put_answer(text: &mut String, answer: Result<Oklab<PlainFraction>, RowFault>) -> fmt::Result
+    ensures { OnOk result (string_bytes text.new ≡ string_bytes text.old ++ row_text answer) }
 {
     match answer {
         Ok(color) => put_color(text, color),
@@ -77,14 +89,23 @@ impl Lister {
         Ok(Lister { boundary, number })
     }
 
+    // Draws a reading as a row of its own.
+    fn draw_alone(&mut self, reading: Reading) -> Result<Oklab<PlainFraction>, RowFault>
+        ensures text { row_text result ≡ color_text (drawn reading) }
+        ensures same_number { self.new.number ≡ self.old.number }
+    {
+        let mut colors = [BLACK];
+        draw_row::<Fraction, Triangle<Fraction>>(&mut self.boundary, &[reading], &mut colors)?;
+        Ok(colors[0])
+    }
+
     // Appends the line of one reading.
-    #[tactic(auto, unfolding(crate::specs::Listing::drawn))]
     fn put_reading(&mut self, text: &mut String, i: usize, reading: Reading) -> fmt::Result
         ensures text { OnOk result (string_bytes text.new ≡ string_bytes text.old ++ line_of self.old.number i reading) }
         ensures same_number { self.new.number ≡ self.old.number }
     {
         put_start(text, self.number, i, reading.valve)?;
-        put_answer(text, draw(&mut self.boundary, reading))
+        put_answer(text, self.draw_alone(reading))
     }
 
     // Appends the lines of a row.
