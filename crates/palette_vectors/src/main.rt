@@ -10,7 +10,6 @@ mod row;
 
 use conversion::{ALL, Conversion};
 use row::Found;
-use std::collections::BTreeMap;
 use std::io::{BufRead, BufReader};
 use tally::Tally;
 
@@ -24,7 +23,8 @@ fn replay(line: &str) -> Option<(Conversion, Result<(), Found>)> {
 
 // Much as in `root_vectors`: a loop for both would be a library's, and no contract could say what it prints.
 fn run(rt: &HostRuntime) -> anyhow::Result<()> {
-    let mut tallies = BTreeMap::<Conversion, Tally>::new(rt.alloc());
+    // By conversion: a map would be one more thing to find no memory for.
+    let mut tallies = [Tally::default(); 16];
     for line in BufReader::new(rt.alloc(), rt.stdin())?.lines(rt.alloc()) {
         let line = line?;
         let Some((conversion, outcome)) = replay(line.as_str()) else {
@@ -34,13 +34,10 @@ fn run(rt: &HostRuntime) -> anyhow::Result<()> {
         if let Err(found) = outcome {
             println!(rt; "{line}, but found {found}")?;
         }
-        tallies
-            .entry(conversion)?
-            .or_default()
-            .count(outcome.is_ok());
+        tallies[conversion as usize].count(outcome.is_ok());
     }
     for conversion in ALL {
-        let tally = tallies.get(&conversion).copied().unwrap_or_default();
+        let tally = tallies[conversion as usize];
         println!(rt; "{conversion}: {tally}")?;
     }
     Ok(())

@@ -3,14 +3,13 @@
 // library's root differs from, and how many it checked.
 #![tactic(auto)]
 
-use std::collections::BTreeMap;
 use std::fmt;
 use std::io::{BufRead, BufReader};
 use std::num::{f32_from_bits_with_nan, f32_to_bits_with_nan};
 use std::str::FromStr;
 use tally::Tally;
 
-#[derive(Clone, Copy, PartialEq, Eq, PartialOrd, Ord)]
+#[derive(Clone, Copy)]
 enum Kind {
     Sqrt,
     Cbrt,
@@ -81,7 +80,8 @@ fn root_of(kind: Kind, operand: u32) -> u32 {
 
 // Much as in `palette_vectors`: a loop for both would be a library's, and no contract could say what it prints.
 fn run(rt: &HostRuntime) -> anyhow::Result<()> {
-    let mut tallies = BTreeMap::<Kind, Tally>::new(rt.alloc());
+    // By kind: a map would be one more thing to find no memory for.
+    let mut tallies = [Tally::default(); 2];
     for line in BufReader::new(rt.alloc(), rt.stdin())?.lines(rt.alloc()) {
         let line = line?;
         let Some(row) = parse_row(line.as_str()) else {
@@ -93,10 +93,10 @@ fn run(rt: &HostRuntime) -> anyhow::Result<()> {
         if !is_right {
             println!(rt; "{line}, but found {found:08x}")?;
         }
-        tallies.entry(row.kind)?.or_default().count(is_right);
+        tallies[row.kind as usize].count(is_right);
     }
     for kind in [Kind::Sqrt, Kind::Cbrt] {
-        let tally = tallies.get(&kind).copied().unwrap_or_default();
+        let tally = tallies[kind as usize];
         println!(rt; "{kind}: {tally}")?;
     }
     Ok(())
