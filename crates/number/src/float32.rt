@@ -147,7 +147,9 @@ const LONGEST: f32 = 1.00000095367431640625;
 fn accepted_direction(a: f32, b: f32) -> bool
     ensures { result ≡ accepted_direction a b }
 {
-    (SHORTEST..=LONGEST).contains(&(a * a + b * b))
+    // Without a branch, so that a direction that is refused costs no more than one that is accepted.
+    let square = a * a + b * b;
+    (SHORTEST <= square) & (square <= LONGEST)
 }
 
 // The first where it wins or the second is not a number, else the second. The library's `min` and `max` leave open which

@@ -11,8 +11,8 @@ use super::made::{LowestTerms, lost};
 use number::Literal;
 
 // Numerator and denominator in lowest terms, in the order of `Literal`; none where the fraction exceeds the bound. A `match` would
-// say the same in 116 arms.
-const LOWEST_TERMS: [Option<(i64, u64)>; 116] = [
+// say the same in 116 arms; a constant would be built anew on the stack at each use.
+static LOWEST_TERMS: [Option<(i64, u64)>; 116] = [
     Some((1, 2)),
     Some((2, 5)),
     Some((4, 5)),
